@@ -1,0 +1,10 @@
+pub mod Table
+pub mod Bitwise
+pub mod Numbers
+pub mod Masking
+pub mod Inverse
+pub mod Sizes
+pub mod Meeting
+pub mod Lettering
+pub mod Putting
+pub mod Sealed

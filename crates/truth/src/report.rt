@@ -1,0 +1,107 @@
+// What the program prints, as text.
+ghost use mathlib.Core.Path.{_≡_};
+ghost use mathlib.Core.List.{List, [], _∷_, _++_};
+ghost use Prim.Native.Nat.{ℕ, _+_, _-_, _≤_, _<_};
+ghost use lib.ListN.{length, getD, take};
+ghost use Rattle.std.specs.Of.String.{string-bytes};
+ghost use Rattle.std.specs.Of.Vec.{vec-items};
+ghost use Rattle.std.specs.Vec.{made};
+ghost use Rattle.formula.specs.Grammar.{Tree, postfix};
+ghost use Rattle.formula.specs.Faults.{number, place};
+ghost use Rattle.formula.specs.Answer.{steps-of};
+ghost use Rattle.truth.specs.Report.{refusal, read-line, yes-line, unended, Marks, Known, Spelt, Tells, Report};
+use formula::Formula;
+use formula::FormulaFault;
+use formula::Step;
+use std::alloc::AllocError;
+use std::alloc::Global;
+
+// The text without one final line feed.
+pub fn without_line_feed(text: &[u8]) -> &[u8]
+    ensures { λ r. ⌜ now r ≡ unended (now (text .entry)) ⌝ }
+{
+    if text.is_empty() {
+        return text;
+    }
+    let last = text.len() - 1;
+    if text[last] == b'\n' {
+        &text[0..last]
+    } else {
+        text
+    }
+}
+
+fn refusal(heap: Global, number: u8, place: usize) -> Result<String, AllocError>
+    ensures { λ r. ⌜ made r (λ s. string-bytes s ≡ refusal number place) ⌝ }
+{
+    format!(heap, "REFUSED,{number},{place}\n")
+}
+
+fn read_line(heap: Global, bytes: usize, steps: usize) -> Result<String, AllocError>
+    ensures { λ r. ⌜ made r (λ s. string-bytes s ≡ read-line bytes steps) ⌝ }
+{
+    format!(heap, "read {bytes} bytes as {steps} steps:")
+}
+
+fn yes_line(heap: Global, yes: u16) -> Result<String, AllocError>
+    ensures { λ r. ⌜ made r (λ s. string-bytes s ≡ yes-line yes) ⌝ }
+{
+    format!(heap, "\nyes in {yes} of 4096 versions\n")
+}
+
+fn append(out: &mut Vec<u8>, bytes: &[u8]) -> Result<(), AllocError>
+    ensures { λ r. ⌜ made r (λ _. vec-items (now (out .exit)) ≡ vec-items (now (out .entry)) ++ now (bytes .entry)) ⌝ }
+{
+    out.extend_from_slice(bytes)
+}
+
+fn character(step: Step) -> u8
+    ensures { λ r. ⌜ Marks step r ⌝ }
+{
+    match step.symbol() {
+        Some(b) => b,
+        None => b'?',
+    }
+}
+
+fn append_symbols(out: &mut Vec<u8>, steps: &[Step]) -> Result<(), AllocError>
+    requires { ⌜ Known (now steps) ⌝ }
+    ensures { λ r. ⌜ made r (λ _. Spelt (now (steps .entry)) (vec-items (now (out .entry))) (vec-items (now (out .exit)))) ⌝ }
+{
+    for step in steps {
+        append(out, &[b' ', character(*step)])?;
+    }
+    Ok(())
+}
+
+fn counted(heap: Global, bytes: usize, f: &Formula) -> Result<Vec<u8>, AllocError>
+    requires { ⌜ Known (steps-of (now f)) ⌝ }
+    ensures { λ r. ⌜ made r (λ out. (t : Tree) → steps-of (now (f .entry)) ≡ postfix t → Tells bytes t (vec-items out)) ⌝ }
+{
+    let steps = f.steps();
+    let first = read_line(heap, bytes, steps.len())?;
+    let last = yes_line(heap, f.count_yes())?;
+    let mut out = Vec::new(heap);
+    append(&mut out, first.as_bytes())?;
+    append_symbols(&mut out, steps)?;
+    append(&mut out, last.as_bytes())?;
+    Ok(out)
+}
+
+fn faulty(heap: Global, e: FormulaFault) -> Result<Vec<u8>, AllocError>
+    ensures { λ r. ⌜ made r (λ out. vec-items out ≡ refusal (number e) (place e)) ⌝ }
+{
+    let line = refusal(heap, e.number(), e.place())?;
+    line.as_bytes().to_vec(heap)
+}
+
+// All that is printed for a text.
+pub fn report(heap: Global, text: &[u8]) -> Result<Vec<u8>, AllocError>
+    ensures { λ r. ⌜ made r (λ out. Report (now (text .entry)) (vec-items out)) ⌝ }
+{
+    let mut f = Formula::new();
+    match f.read(text) {
+        Ok(()) => counted(heap, text.len(), &f),
+        Err(e) => faulty(heap, e),
+    }
+}
