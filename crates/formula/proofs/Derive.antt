@@ -64,7 +64,7 @@ pub join : (n k cur b : ℕ) (s : Operator) (bs cs : List ℕ) (l r : Tree) → 
 join n k cur b s bs cs l r h g e f q =
     ⊎-elim (λ lt. once b e lt (weaker (suc k) cur (g lt) f) q) (λ ge. chained b e ge (weaker k cur h f) q) (order k 3)
 
--- signs
+-- operators
 strength : Token → ℕ
 strength (Operand a) = 0
 strength Negation = 0

@@ -20,15 +20,18 @@ pub data Outer : Type 0 where
   outside : Outer
   inside : ℕ → Chain → Outer → Outer
 
+-- how many brackets are open
 unfoldable pub height : Outer → ℕ
 height outside = 0
 height (inside m c o) = suc (height o)
 
+-- no formula continues; an operand is wanted behind so many `!`; an operand stands there
 pub data State : Type 0 where
   dead : State
   operand : ℕ → Chain → Outer → State
   operator : Chain → Tree → Outer → State
 
+-- the tree behind so many `!`
 unfoldable pub nots : ℕ → Tree → Tree
 nots zero t = t
 nots (suc m) t = nots m (neg t)
@@ -38,17 +41,21 @@ unfoldable pub fold : ℕ → Chain → Tree → Chain × Tree
 fold k start x = (start, x)
 fold k (wait l j s c) x = cond (leb k j) (fold k c (binary s l x)) (wait l j s c, x)
 
+-- an operator of strength k waits already, so another cannot chain
 unfoldable pub blocked : ℕ → Chain → Bool
 blocked k start = false
 blocked k (wait l j s c) = eqb j k
 
+-- an operator begins to wait for its right side
 unfoldable pub enter : ℕ → Operator → Chain × Tree → Outer → State
 enter k s f o = operand 0 (wait (f .1) k s (f .0)) o
 
+-- a bracket closes around the tree
 unfoldable pub close : Tree → Outer → State
 close t outside = dead
 close t (inside m c o) = operator c (nots m t) o
 
+-- one token, with brackets nested at most n deep
 unfoldable pub step : ℕ → State → Token → State
 step n dead κ = dead
 step n (operand m c o) (Operand a) = operator c (nots m (leaf a)) o
@@ -64,6 +71,7 @@ step n (operator c x o) Opening = dead
 step n (operator c x o) Closing = close (fold 1 c x .1) o
 step n (operator c x o) Foreign = dead
 
+-- the bytes of a text, one after the other
 unfoldable pub run : ℕ → State → List ℕ → State
 run n s [] = s
 run n s (b ∷ bs) = run n (step n s (notation b)) bs

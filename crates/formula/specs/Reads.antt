@@ -34,7 +34,7 @@ pub record Reads (text : List ℕ) (at depth k j : ℕ) (before since : StepBuff
   pub added : written since ≡ written before ++ postfix tree
   pub drives : (limit : ℕ) → Drives limit (32 - depth) k (Stops text n j) (between at n text) tree
 
--- a state that may neg be the last one of a formula
+-- a state in which a formula cannot end
 abbrev pub Unfinished : State → Type 0
 Unfinished dead = Unit {0}
 Unfinished (operand m c o) = Unit {0}
@@ -55,6 +55,7 @@ Plain text (ForeignByte p) = (p < length text) × (notation (getD text p 0) ≡ 
 Plain text (Unexpected p) = p < length text → notation (getD text p 0) ≡ Foreign → ⊥
 Plain text (TooDeep p) = ⊥
 
+-- what the byte at the place shows, for the number of the fault
 abbrev pub Named : List ℕ → ℕ → ℕ → ℕ → FormulaFault → Type 0
 Named text at depth k TooLong = ⊥
 Named text at depth k (ForeignByte p) = (p < length text) × (notation (getD text p 0) ≡ Foreign)
