@@ -25,7 +25,7 @@ use Rattle.formula.specs.declared.faults.FormulaFault.the-variants.{TooLong, F
 use Rattle.formula.specs.Notation.{notation}
 use Rattle.formula.specs.Grammar.{Tree, leaf, neg, binary, postfix, Derives, single, negated, bracket, looser, chained, once}
 use Rattle.formula.specs.Automaton.{Chain, start, wait, Outer, outside, inside, height, State, dead, operand, operator, nots, fold, blocked, close, step, run, Below, Drives}
-use Rattle.formula.specs.Faults.{place}
+use Rattle.formula.specs.Faults.{fault-place}
 use Rattle.formula.specs.Reads.{written}
 use Rattle.formula.specs.Reads.{Reads, Fails, Stops, Unfinished, Limit, Plain, Named, After}
 use Rattle.formula.proofs.Notes.{strength-bounds}

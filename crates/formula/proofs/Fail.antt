@@ -25,7 +25,7 @@ use Rattle.formula.specs.declared.faults.FormulaFault.the-variants.{TooLong, F
 use Rattle.formula.specs.Notation.{notation}
 use Rattle.formula.specs.Grammar.{Tree, leaf, neg, binary, postfix, Derives, single, negated, bracket, looser, chained, once}
 use Rattle.formula.specs.Automaton.{Chain, start, wait, Outer, outside, inside, height, State, dead, operand, operator, nots, fold, blocked, close, step, run, Below, Drives}
-use Rattle.formula.specs.Faults.{place}
+use Rattle.formula.specs.Faults.{fault-place}
 use Rattle.formula.specs.Reads.{written}
 use Rattle.formula.specs.Reads.{Reads, Fails, Stops, Unfinished, Limit, Plain, Named, After}
 use Rattle.formula.proofs.Notes.{strength-bounds}
@@ -52,7 +52,7 @@ pub record Frame (text : List ℕ) (at depth k at′ depth′ k′ : ℕ) : Type
   pub derives : (x n i : ℕ) (bs : List ℕ) (t : Tree) → n ≡ x + (32 - depth) → i ≡ x + (32 - depth′) → Derives i k′ bs t → (more : List ℕ) × (u : Tree) × Derives n k (between at at′ text ++ (bs ++ more)) u
   pub drives : (L : ℕ) → 32 ≤ L → (m : ℕ) (c : Chain) (o : Outer) → (k < 6 → m ≡ 0) → Below k c → height o ≡ depth → (m′ : ℕ) × (c′ : Chain) × (o′ : Outer) × (k′ < 6 → m′ ≡ 0) × Below k′ c′ × (height o′ ≡ depth′) × ((rest : List ℕ) → run L (operand m c o) (between at at′ text ++ rest) ≡ run L (operand m′ c′ o′) rest)
 
-named-in : (text : List ℕ) (at depth k at′ depth′ k′ : ℕ) → Frame text at depth k at′ depth′ k′ → (e : FormulaFault) → at′ ≤ place e → Named text at′ depth′ k′ e → Named text at depth k e
+named-in : (text : List ℕ) (at depth k at′ depth′ k′ : ℕ) → Frame text at depth k at′ depth′ k′ → (e : FormulaFault) → at′ ≤ fault-place e → Named text at′ depth′ k′ e → Named text at depth k e
 named-in text at depth k at′ depth′ k′ fr TooLong h n = n
 named-in text at depth k at′ depth′ k′ fr (ForeignByte p) h n = n
 named-in text at depth k at′ depth′ k′ fr (Unexpected p) h n = n
@@ -177,7 +177,7 @@ operand-dead Foreign L m c o h = refl
 an-a : (n : ℕ) → Derives n 6 (97 ∷ []) (leaf (Option 1))
 an-a n = single letter-a
 
-pub fail-operand : (text : List ℕ) (at depth : ℕ) (e : FormulaFault) → at ≤ length text → place e ≡ at → Plain text e → (at < length text → Starts (notation (getD text at 0)) → ⊥) → Fails text at depth 6 e
+pub fail-operand : (text : List ℕ) (at depth : ℕ) (e : FormulaFault) → at ≤ length text → fault-place e ≡ at → Plain text e → (at < length text → Starts (notation (getD text at 0)) → ⊥) → Fails text at depth 6 e
 unfolding run
 fail-operand text at depth e h is pl bad = record {
   p = at;
@@ -216,7 +216,7 @@ unfolding height
 inner-open c x outside h = let w : ⊥ = omega arith in w
 inner-open c x (inside m d o) h = tt
 
-pub fail-after : (text : List ℕ) (at depth q : ℕ) (before since : StepBuffer) (e : FormulaFault) → depth ≤ 32 → Reads text at depth 1 1 before since q → (q < length text → notation (getD text q 0) ≡ Closing → depth ≡ 0) → (q ≡ length text → 1 ≤ depth) → place e ≡ q → Plain text e → Fails text at depth 1 e
+pub fail-after : (text : List ℕ) (at depth q : ℕ) (before since : StepBuffer) (e : FormulaFault) → depth ≤ 32 → Reads text at depth 1 1 before since q → (q < length text → notation (getD text q 0) ≡ Closing → depth ≡ 0) → (q ≡ length text → 1 ≤ depth) → fault-place e ≡ q → Plain text e → Fails text at depth 1 e
 unfolding run
 fail-after text at depth q before since e dp r cl en is pl = record {
   p = q;

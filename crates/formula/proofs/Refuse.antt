@@ -10,12 +10,12 @@ use Rattle.std.specs.Holes.{between}
 use Rattle.std.proofs.str.Laws.{order}
 use Rattle.formula.specs.declared.faults.FormulaFault.{FormulaFault}
 use Rattle.formula.specs.declared.faults.FormulaFault.the-variants.{TooLong, ForeignByte, Unexpected, TooDeep}
-use Rattle.formula.specs.Grammar.{Tree, postfix, Derives, Viable, Spelled, Longest}
+use Rattle.formula.specs.Grammar.{Tree, postfix, Derives, Viable, IsPostfix, Longest}
 use Rattle.formula.specs.Automaton.{start, outside, State, dead, operand, run, height}
 use Rattle.formula.specs.declared.steps.StepBuffer.{StepBuffer}
 use Rattle.formula.specs.declared.stored.Formula.{Formula}
-use Rattle.formula.specs.Faults.{place}
-use Rattle.formula.specs.Answer.{steps-of, Read, Broken, Strange, Deeper, Refused}
+use Rattle.formula.specs.Faults.{fault-place}
+use Rattle.formula.specs.Answer.{steps-of, Read, Broken, ForeignAt, TooDeepAt, Refused}
 use Rattle.formula.specs.Reads.{written, Reads, Fails, Unfinished, Limit, Named}
 use Rattle.formula.proofs.Drive.{not-viable, unfinished}
 
@@ -28,13 +28,13 @@ at-32 text at depth k (ForeignByte p) n = omega arith
 at-32 text at depth k (Unexpected p) n = omega arith
 at-32 text at depth k (TooDeep p) n = refl
 
-dead-at : (text : List ℕ) (e : FormulaFault) (L : ℕ) → Fails text 0 0 1 e → Limit e L → place e < length text → run L (operand 0 start outside) (take (place e + 1) text) ≡ dead
+dead-at : (text : List ℕ) (e : FormulaFault) (L : ℕ) → Fails text 0 0 1 e → Limit e L → fault-place e < length text → run L (operand 0 start outside) (take (fault-place e + 1) text) ≡ dead
 unfolding height
 dead-at text e L f l h =
     let s = f .stuck L l 0 start outside (λ lt. refl) tt refl in
-    ap (run L (operand 0 start outside)) (sym (front text (place e + 1)) ∙ ap (λ n. between 0 (n + 1) text) (f .is)) ∙ s .0 (omega (arith, f .is))
+    ap (run L (operand 0 start outside)) (sym (front text (fault-place e + 1)) ∙ ap (λ n. between 0 (n + 1) text) (f .is)) ∙ s .0 (omega (arith, f .is))
 
-open-at : (text : List ℕ) (e : FormulaFault) → Fails text 0 0 1 e → place e ≡ length text → Unfinished (run 32 (operand 0 start outside) text)
+open-at : (text : List ℕ) (e : FormulaFault) → Fails text 0 0 1 e → fault-place e ≡ length text → Unfinished (run 32 (operand 0 start outside) text)
 unfolding height
 open-at text e f h =
     let s = f .stuck 32 (at-32 text 0 0 1 e (f .named)) 0 start outside (λ lt. refl) tt refl in
@@ -47,17 +47,17 @@ shorter text n p q h v =
     let e : take p text ++ more ≡ take q text = ap (λ l. l ++ more) (sym (take-take p q text h)) ∙ take-append-drop p (take q text) in
     (more ++ v .0, v .1, subst (λ bs. Derives n 1 bs (v .1)) (ap (λ l. l ++ v .0) (sym e) ∙ append-assoc (take p text) more (v .0)) (v .2))
 
-broken : (text : List ℕ) (e : FormulaFault) → length text ≤ 4096 → Fails text 0 0 1 e → Broken text (place e)
+broken : (text : List ℕ) (e : FormulaFault) → length text ≤ 4096 → Fails text 0 0 1 e → Broken text (fault-place e)
 broken text e h f =
     let l = at-32 text 0 0 1 e (f .named) in
-    let no-more : place e < length text → Viable 32 (take (place e + 1) text) → ⊥ = λ lt v. not-viable 32 32 (take (place e + 1) text) (omega arith) (dead-at text e 32 f l lt) v in
+    let no-more : fault-place e < length text → Viable 32 (take (fault-place e + 1) text) → ⊥ = λ lt v. not-viable 32 32 (take (fault-place e + 1) text) (omega arith) (dead-at text e 32 f l lt) v in
     record {
       short = h;
-      none = λ t g. ⊎-elim (λ lt. no-more lt (drop (place e + 1) text, t, subst (λ bs. Derives 32 1 bs t) (sym (take-append-drop (place e + 1) text)) g)) (λ ge. unfinished 32 32 text t (omega arith) (open-at text e f (omega (arith, f .is, f .inside))) g) (order (place e) (length text));
+      none = λ t g. ⊎-elim (λ lt. no-more lt (drop (fault-place e + 1) text, t, subst (λ bs. Derives 32 1 bs t) (sym (take-append-drop (fault-place e + 1) text)) g)) (λ ge. unfinished 32 32 text t (omega arith) (open-at text e f (omega (arith, f .is, f .inside))) g) (order (fault-place e) (length text));
       place = record {
         inside = omega (arith, f .is, f .inside);
         viable = (f .continued .0, f .continued .1, subst (λ bs. Derives 32 1 (bs ++ f .continued .0) (f .continued .1)) (front text (f .p) ∙ ap (λ n. take n text) (sym (f .is))) (f .continued .2));
-        longest = λ q w v. ⊎-elim (λ lt. absurd (no-more (omega arith) (shorter text 32 (place e + 1) q (omega arith) v))) (λ ge. ge) (order (place e) q);
+        longest = λ q w v. ⊎-elim (λ lt. absurd (no-more (omega arith) (shorter text 32 (fault-place e + 1) q (omega arith) v))) (λ ge. ge) (order (fault-place e) q);
       };
     }
 
@@ -79,7 +79,7 @@ whole-text text before since q g r =
 steps-added : (text : List ℕ) (before since : StepBuffer) (q : ℕ) → before .len ≡ 0 → (r : Reads text 0 0 1 1 before since q) → take (since .len) (since .steps) ≡ postfix (r .tree)
 steps-added text before since q z r = r .added ∙ ap (λ n. take n (before .steps) ++ postfix (r .tree)) z
 
-pub spelled : (text : List ℕ) (before since : StepBuffer) (q : ℕ) → length text ≤ q → before .len ≡ 0 → Reads text 0 0 1 1 before since q → Spelled (since .steps) (since .len)
+pub spelled : (text : List ℕ) (before since : StepBuffer) (q : ℕ) → length text ≤ q → before .len ≡ 0 → Reads text 0 0 1 1 before since q → IsPostfix (since .steps) (since .len)
 spelled text before since q g z r = (text, r .tree, whole-text text before since q g r, steps-added text before since q z r)
 
 pub read-all : (text : List ℕ) (before since : StepBuffer) (out : Formula) (q : ℕ) → length text ≤ 4096 → length text ≤ q → before .len ≡ 0 → Reads text 0 0 1 1 before since q → steps-of out ≡ written since → Read text out

@@ -29,17 +29,17 @@ pub record Broken (text : List ℕ) (p : ℕ) : Type 0 where
   pub place : Longest text p
 
 -- with the byte at p the text would continue, were nesting not limited
-abbrev pub Deeper : List ℕ → ℕ → Type 0
-Deeper text p = (p < length text) × (notation (getD text p 0) ≡ Opening) × ((n : ℕ) × Viable n (take (p + 1) text))
+abbrev pub TooDeepAt : List ℕ → ℕ → Type 0
+TooDeepAt text p = (p < length text) × (notation (getD text p 0) ≡ Opening) × ((n : ℕ) × Viable n (take (p + 1) text))
 
 -- the byte at p is none of the 22 characters
-abbrev pub Strange : List ℕ → ℕ → Type 0
-Strange text p = (p < length text) × (notation (getD text p 0) ≡ Foreign)
+abbrev pub ForeignAt : List ℕ → ℕ → Type 0
+ForeignAt text p = (p < length text) × (notation (getD text p 0) ≡ Foreign)
 
 -- a text that is too long; a foreign byte at the place; an opening bracket there that only the limit of nesting forbids;
 -- any other byte there, or the text's end
 abbrev pub Refused : List ℕ → FormulaFault → Type 0
 Refused text TooLong = 4096 < length text
-Refused text (ForeignByte p) = Broken text p × Strange text p
-Refused text (TooDeep p) = Broken text p × Deeper text p
-Refused text (Unexpected p) = Broken text p × (Strange text p → ⊥) × (Deeper text p → ⊥)
+Refused text (ForeignByte p) = Broken text p × ForeignAt text p
+Refused text (TooDeep p) = Broken text p × TooDeepAt text p
+Refused text (Unexpected p) = Broken text p × (ForeignAt text p → ⊥) × (TooDeepAt text p → ⊥)

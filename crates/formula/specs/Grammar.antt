@@ -39,8 +39,8 @@ pub data Derives : ℕ → ℕ → List ℕ → Tree → Type 0 where
   once : {n k : ℕ} (b : ℕ) {op : Operator} {bs cs : List ℕ} {l r : Tree} → notation b ≡ Infix k op → k < 3 → Derives n (suc k) bs l → Derives n (suc k) cs r → Derives n k (bs ++ b ∷ cs) (binary op l r)
 
 -- the first n of the steps are the postfix form of some formula
-abbrev pub Spelled : List Step → ℕ → Type 0
-Spelled steps n = (text : List ℕ) × (t : Tree) × Derives 32 1 text t × (take n steps ≡ postfix t)
+abbrev pub IsPostfix : List Step → ℕ → Type 0
+IsPostfix steps n = (text : List ℕ) × (t : Tree) × Derives 32 1 text t × (take n steps ≡ postfix t)
 
 -- some formula of any length, nested at most n deep, continues the text
 abbrev pub Viable : ℕ → List ℕ → Type 0
@@ -57,5 +57,5 @@ abbrev pub One-tree : Type 0
 One-tree = (n i : ℕ) (text : List ℕ) (t u : Tree) → Derives n 1 text t → Derives i 1 text u → t ≡ u
 
 -- one postfix form has one tree
-abbrev pub One-spelling : Type 0
-One-spelling = (t u : Tree) → postfix t ≡ postfix u → t ≡ u
+abbrev pub Postfix-injective : Type 0
+Postfix-injective = (t u : Tree) → postfix t ≡ postfix u → t ≡ u

@@ -14,7 +14,7 @@ use Rattle.formula.specs.Notation.{notation}
 use Rattle.formula.specs.Grammar.{Tree, postfix, Derives}
 use Rattle.formula.specs.Automaton.{Chain, Outer, State, height, dead, operand, operator, outside, inside, fold, blocked, run, Below, Drives}
 use Rattle.formula.specs.declared.steps.Step.{Step}
-use Rattle.formula.specs.Faults.{place}
+use Rattle.formula.specs.Faults.{fault-place}
 
 -- the steps written so far
 abbrev pub written : StepBuffer → List Step
@@ -65,7 +65,7 @@ Named text at depth k (TooDeep p) = (p < length text) × (notation (getD text p 
 -- from `at` on, no formula of strength k gets past `p`, and some gets there
 pub record Fails (text : List ℕ) (at depth k : ℕ) (e : FormulaFault) : Type 0 where
   pub p : ℕ
-  pub is : place e ≡ p
+  pub is : fault-place e ≡ p
   pub after : at ≤ p
   pub inside : p ≤ length text
   pub continued : (more : List ℕ) × (t : Tree) × Derives (32 - depth) k (between at p text ++ more) t

@@ -10,7 +10,7 @@ ghost use Rattle.formula.specs.declared.steps.Leaf.the-variants.{Constant};
 ghost use Rattle.formula.specs.declared.steps.Token.the-variants.{Negation};
 ghost use Rattle.formula.specs.Notation.{notation};
 ghost use Rattle.formula.specs.Grammar.{leaf, postfix};
-ghost use Rattle.formula.specs.Faults.{place};
+ghost use Rattle.formula.specs.Faults.{fault-place};
 ghost use Rattle.formula.specs.Answer.{steps-of, Read, Refused};
 ghost use Rattle.formula.specs.Reads.{written, Reads, Fails, Plain, After};
 use crate::faults::FormulaFault;
@@ -82,7 +82,7 @@ fn push_negations(out: &mut StepBuffer, n: usize)
 
 // The fault of the byte at `at`, or of the text's end there, where nothing fits.
 fn unexpected(text: &[u8], at: usize) -> FormulaFault
-    ensures { λ r. ⌜ (place r ≡ at) × Plain (now (text .entry)) r ⌝ }
+    ensures { λ r. ⌜ (fault-place r ≡ at) × Plain (now (text .entry)) r ⌝ }
 {
     if at < text.len() {
         if let Token::Foreign = classify(text[at]) {

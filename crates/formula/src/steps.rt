@@ -1,5 +1,4 @@
 ghost use Prim.Native.Nat.{_≤_};
-ghost use Rattle.std.specs.Options.{Cases};
 
 // What a formula is built from: a constant, or an option by its number (1 for a, 12 for l).
 #[derive(Clone, Copy)]

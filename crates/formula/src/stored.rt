@@ -1,5 +1,5 @@
 ghost use Prim.Native.Nat.{_≤_};
-ghost use Rattle.formula.specs.Grammar.{Spelled};
+ghost use Rattle.formula.specs.Grammar.{IsPostfix};
 use crate::steps::Step;
 
 // A formula that was read, by its postfix steps.
@@ -8,5 +8,5 @@ pub struct Formula {
     pub(crate) steps: [Step; 4096],
     pub(crate) len: usize,
     ghost few: { len ≤ 4096 },
-    ghost spelled: { ∥ Spelled steps len ∥₁ },
+    ghost spelled: { ∥ IsPostfix steps len ∥₁ },
 }

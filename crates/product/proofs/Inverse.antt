@@ -9,7 +9,7 @@ use lib.Bits.{bitAnd, and-block}
 use Rattle.std.proofs.shelf.Bits.{pow-pos, pow-add, div-mul-add}
 use Rattle.product.specs.Bits.{bit}
 use Rattle.product.specs.Words.{Word, Words, Version, absent, refused, wanted, names}
-use Rattle.product.specs.Masks.{word, words, signs, wants, namedMask, signMask, versionMask, Masks}
+use Rattle.product.specs.Masks.{word, words, signs, wants, named-mask, sign-mask, version-mask, Masks}
 use Rattle.product.proofs.Bitwise.{low-part, no-bits, bit-below, cond-bit}
 use Rattle.product.proofs.Masking.{words-one}
 
@@ -56,13 +56,13 @@ sum-below : (b : Bool) (x y z : ℕ) → x < y → z ≡ y * 2 → cond b y 0 + 
 sum-below true x y z p q = omega arith
 sum-below false x y z p q = omega arith
 
-pub named-below : (n : ℕ) (p : Words n) → namedMask n p < 2 ^ n
+pub named-below : (n : ℕ) (p : Words n) → named-mask n p < 2 ^ n
 named-below zero p = omega arith
-named-below (suc n) p = sum-below (names (p .0)) (namedMask n (p .1)) (2 ^ n) (2 ^ suc n) (named-below n (p .1)) (pow-suc 2 n)
+named-below (suc n) p = sum-below (names (p .0)) (named-mask n (p .1)) (2 ^ n) (2 ^ suc n) (named-below n (p .1)) (pow-suc 2 n)
 
-pub sign-below : (n : ℕ) (p : Words n) → signMask n p < 2 ^ n
+pub sign-below : (n : ℕ) (p : Words n) → sign-mask n p < 2 ^ n
 sign-below zero p = omega arith
-sign-below (suc n) p = sum-below (wants (p .0)) (signMask n (p .1)) (2 ^ n) (2 ^ suc n) (sign-below n (p .1)) (pow-suc 2 n)
+sign-below (suc n) p = sum-below (wants (p .0)) (sign-mask n (p .1)) (2 ^ n) (2 ^ suc n) (sign-below n (p .1)) (pow-suc 2 n)
 
 word-back : (w : Word) → word (names w) (wants w) ≡ w
 word-back absent = refl
@@ -70,11 +70,11 @@ word-back refused = refl
 word-back wanted = refl
 
 -- the masks of a product say that product
-pub words-back : (n : ℕ) (p : Words n) → words n (namedMask n p) (signMask n p) ≡ p
+pub words-back : (n : ℕ) (p : Words n) → words n (named-mask n p) (sign-mask n p) ≡ p
 words-back zero p = refl
 words-back (suc n) p =
-    let x = namedMask n (p .1) in
-    let y = signMask n (p .1) in
+    let x = named-mask n (p .1) in
+    let y = sign-mask n (p .1) in
     let a = names (p .0) in
     let b = wants (p .0) in
     let first : word (bit (one a * 2 ^ n + x) n) (bit (one b * 2 ^ n + y) n) ≡ p .0 = (λ i. word (top n x a (named-below n (p .1)) i) (top n y b (sign-below n (p .1)) i)) ∙ word-back (p .0) in
@@ -87,11 +87,11 @@ within-word absent = refl
 within-word refused = refl
 within-word wanted = refl
 
-sign-within : (n : ℕ) (p : Words n) → bitAnd (signMask n p) (namedMask n p) ≡ signMask n p
+sign-within : (n : ℕ) (p : Words n) → bitAnd (sign-mask n p) (named-mask n p) ≡ sign-mask n p
 sign-within zero p = refl
 sign-within (suc n) p =
-    let x = namedMask n (p .1) in
-    let y = signMask n (p .1) in
+    let x = named-mask n (p .1) in
+    let y = sign-mask n (p .1) in
     let a = names (p .0) in
     let b = wants (p .0) in
     (λ i. bitAnd (scaled b (2 ^ n) i + y) (scaled a (2 ^ n) i + x))
@@ -100,31 +100,31 @@ sign-within (suc n) p =
     ∙ sym (λ i. scaled b (2 ^ n) i + y)
 
 -- the masks of a product of twelve options are masks
-pub masks-back : (p : Words 12) → Masks (namedMask 12 p) (signMask 12 p)
+pub masks-back : (p : Words 12) → Masks (named-mask 12 p) (sign-mask 12 p)
 masks-back p = record { low = named-below 12 p; signed = sign-below 12 p; within = sign-within 12 p }
 
 -- and no other masks say it
-pub masks-alone : (p : Words 12) (a b : ℕ) → Masks a b → words 12 a b ≡ p → (a ≡ namedMask 12 p) × (b ≡ signMask 12 p)
-masks-alone p a b m e = words-one a b (namedMask 12 p) (signMask 12 p) m (masks-back p) (e ∙ sym (words-back 12 p))
+pub masks-alone : (p : Words 12) (a b : ℕ) → Masks a b → words 12 a b ≡ p → (a ≡ named-mask 12 p) × (b ≡ sign-mask 12 p)
+masks-alone p a b m e = words-one a b (named-mask 12 p) (sign-mask 12 p) m (masks-back p) (e ∙ sym (words-back 12 p))
 
-pub version-below : (n : ℕ) (v : Version n) → versionMask n v < 2 ^ n
+pub version-below : (n : ℕ) (v : Version n) → version-mask n v < 2 ^ n
 version-below zero v = omega arith
-version-below (suc n) v = sum-below (v .0) (versionMask n (v .1)) (2 ^ n) (2 ^ suc n) (version-below n (v .1)) (pow-suc 2 n)
+version-below (suc n) v = sum-below (v .0) (version-mask n (v .1)) (2 ^ n) (2 ^ suc n) (version-below n (v .1)) (pow-suc 2 n)
 
 signs-low : (k n x a : ℕ) → k ≤ n → signs k (a * 2 ^ n + x) ≡ signs k x
 signs-low zero n x a le = refl
 signs-low (suc k) n x a le = λ i. (eqb (low-bit k (n - suc k) n a x (omega arith) i) 1, signs-low k n x a (omega arith) i)
 
 -- the mask of a version gives that version
-pub signs-back : (n : ℕ) (v : Version n) → signs n (versionMask n v) ≡ v
+pub signs-back : (n : ℕ) (v : Version n) → signs n (version-mask n v) ≡ v
 signs-back zero v = refl
 signs-back (suc n) v =
-    let x = versionMask n (v .1) in
+    let x = version-mask n (v .1) in
     let rest : signs n (one (v .0) * 2 ^ n + x) ≡ v .1 = signs-low n n x (one (v .0)) (omega arith) ∙ signs-back n (v .1) in
     (λ i. signs (suc n) (scaled (v .0) (2 ^ n) i + x)) ∙ λ i. (top n x (v .0) (version-below n (v .1)) i, rest i)
 
 -- the mask of the signs that a mask gives
-pub version-signs : (n m : ℕ) → versionMask n (signs n m) ≡ m % 2 ^ n
+pub version-signs : (n m : ℕ) → version-mask n (signs n m) ≡ m % 2 ^ n
 version-signs zero m = sym (no-bits m)
 version-signs (suc n) m =
     (λ i. cond-bit (m / 2 ^ n % 2) (2 ^ n) (bit-below m n) i + version-signs n m i) ∙ sym (low-part m n)

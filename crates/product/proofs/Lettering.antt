@@ -7,16 +7,16 @@ use mathlib.Core.List.{_∷_, [], _++_}
 use lib.ListN.{length, length-append}
 use Rattle.product.specs.Bits.{bit}
 use Rattle.product.specs.Words.{Word, spell, letters}
-use Rattle.product.specs.Masks.{word, words, literal, lastLetters}
+use Rattle.product.specs.Masks.{word, words, literal, last-letters}
 
-pub letters-none : (n named sign : ℕ) → n ≡ 0 → lastLetters n named sign ≡ []
-unfolding lastLetters
+pub letters-none : (n named sign : ℕ) → n ≡ 0 → last-letters n named sign ≡ []
+unfolding last-letters
 letters-none zero named sign e = refl
 letters-none (suc n) named sign e = absurd (omega arith)
 
 -- the first option's literal, then those of the rest
-pub letters-next : (n named sign : ℕ) → (n ≡ 0 → ⊥) → n ≤ 12 → lastLetters n named sign ≡ literal named sign (n - 1) ++ lastLetters (n - 1) named sign
-unfolding literal lastLetters
+pub letters-next : (n named sign : ℕ) → (n ≡ 0 → ⊥) → n ≤ 12 → last-letters n named sign ≡ literal named sign (n - 1) ++ last-letters (n - 1) named sign
+unfolding literal last-letters
 letters-next n named sign least most =
     let m : ℕ = n - 1 in
     let e : n ≡ m + 1 = omega (arith, least) in
@@ -35,9 +35,9 @@ letters-next n named sign least most =
 
 -- its length
 pub letters-next-length : (n named sign : ℕ) → (n ≡ 0 → ⊥) → n ≤ 12
-    → length (lastLetters n named sign) ≡ length (literal named sign (n - 1)) + length (lastLetters (n - 1) named sign)
+    → length (last-letters n named sign) ≡ length (literal named sign (n - 1)) + length (last-letters (n - 1) named sign)
 letters-next-length n named sign least most =
-    ap length (letters-next n named sign least most) ∙ length-append (literal named sign (n - 1)) (lastLetters (n - 1) named sign)
+    ap length (letters-next n named sign least most) ∙ length-append (literal named sign (n - 1)) (last-letters (n - 1) named sign)
 
 pub literal-absent : (named sign j : ℕ) → bit named j ≡ false → literal named sign j ≡ []
 unfolding literal

@@ -7,7 +7,7 @@ use lib.Dec.{eqb}
 use lib.Bits.{bitAnd}
 use Rattle.product.specs.Bits.{bit}
 use Rattle.product.specs.Words.{names}
-use Rattle.product.specs.Masks.{word, words, wants, namedMask, signMask, Masks}
+use Rattle.product.specs.Masks.{word, words, wants, named-mask, sign-mask, Masks}
 use Rattle.product.proofs.Bitwise.{low-part, no-bits, bit-below, within-bit, cond-bit}
 
 names-word : (a b : Bool) → names (word a b) ≡ a
@@ -24,7 +24,7 @@ wants-bits (suc zero) (suc (suc b)) p q = absurd (omega arith)
 wants-bits (suc (suc a)) b p q = absurd (omega arith)
 
 -- the named mask of what two masks say
-pub named-words : (n named sign : ℕ) → namedMask n (words n named sign) ≡ named % 2 ^ n
+pub named-words : (n named sign : ℕ) → named-mask n (words n named sign) ≡ named % 2 ^ n
 named-words zero named sign = sym (no-bits named)
 named-words (suc n) named sign =
     let a : ℕ = named / 2 ^ n % 2 in
@@ -33,7 +33,7 @@ named-words (suc n) named sign =
     ∙ sym (low-part named n)
 
 -- the sign mask of what two masks say
-pub sign-words : (n named sign : ℕ) → bitAnd sign named ≡ sign → signMask n (words n named sign) ≡ sign % 2 ^ n
+pub sign-words : (n named sign : ℕ) → bitAnd sign named ≡ sign → sign-mask n (words n named sign) ≡ sign % 2 ^ n
 sign-words zero named sign h = sym (no-bits sign)
 sign-words (suc n) named sign h =
     let a : ℕ = named / 2 ^ n % 2 in
@@ -48,6 +48,6 @@ small m p = omega arith
 -- masks that say the same are equal
 pub words-one : (a b c d : ℕ) → Masks a b → Masks c d → words 12 a b ≡ words 12 c d → (a ≡ c) × (b ≡ d)
 words-one a b c d m k e = (
-  sym (small a (m .low)) ∙ sym (named-words 12 a b) ∙ ap (namedMask 12) e ∙ named-words 12 c d ∙ small c (k .low),
-  sym (small b (m .signed)) ∙ sym (sign-words 12 a b (m .within)) ∙ ap (signMask 12) e ∙ sign-words 12 c d (k .within) ∙ small d (k .signed),
+  sym (small a (m .low)) ∙ sym (named-words 12 a b) ∙ ap (named-mask 12) e ∙ named-words 12 c d ∙ small c (k .low),
+  sym (small b (m .signed)) ∙ sym (sign-words 12 a b (m .within)) ∙ ap (sign-mask 12) e ∙ sign-words 12 c d (k .within) ∙ small d (k .signed),
 )

@@ -11,9 +11,9 @@ use lib.Dec.{eqb}
 use lib.ListN.{length}
 use Rattle.product.specs.declared.masks.Product.{Product}
 use Rattle.product.specs.Words.{Words, letters}
-use Rattle.product.specs.Masks.{words, lastLetters, namedMask, signMask, Masks}
-use Rattle.product.specs.Weights.{weightOf}
-use Rattle.product.specs.Products.{wordsOf, versionOf, numberOf, sizeOf, lettersOf, meetsOf}
+use Rattle.product.specs.Masks.{words, last-letters, named-mask, sign-mask, Masks}
+use Rattle.product.specs.Weights.{weight-of}
+use Rattle.product.specs.Products.{words-of, version-of, number-of, size-of, letters-of, meets-of}
 use Rattle.product.proofs.Numbers.{number-below, number-one, number-weights}
 use Rattle.product.proofs.Masking.{words-one, small}
 use Rattle.product.proofs.Inverse.{words-back, masks-back}
@@ -37,47 +37,47 @@ same-masks p q e f = λ i. record {
 }
 
 -- products that say the same are equal
-pub same-words : (p q : Product) → wordsOf p ≡ wordsOf q → p ≡ q
-unfolding wordsOf
+pub same-words : (p q : Product) → words-of p ≡ words-of q → p ≡ q
+unfolding words-of
 same-words p q e =
     let m = words-one (p .named) (p .sign) (q .named) (q .sign) (masks-of p) (masks-of q) e in
     same-masks p q (m .0) (m .1)
 
 -- every row of twelve words is what a product says
-pub of-words : (p : Words 12) → (q : Product) × (wordsOf q ≡ p)
-unfolding wordsOf
+pub of-words : (p : Words 12) → (q : Product) × (words-of q ≡ p)
+unfolding words-of
 of-words p =
     let m = masks-back p in
-    (record { named = namedMask 12 p; sign = signMask 12 p; low = m .low; within = m .within }, words-back 12 p)
+    (record { named = named-mask 12 p; sign = sign-mask 12 p; low = m .low; within = m .within }, words-back 12 p)
 
-pub number-few : (p : Words 12) → numberOf p < 531441
-unfolding numberOf
+pub number-few : (p : Words 12) → number-of p < 531441
+unfolding number-of
 number-few p = number-below 12 p
 
-pub same-numbers : (p q : Words 12) → numberOf p ≡ numberOf q → p ≡ q
-unfolding numberOf
+pub same-numbers : (p q : Words 12) → number-of p ≡ number-of q → p ≡ q
+unfolding number-of
 same-numbers p q e = number-one 12 p q e
 
 -- products with one number are equal
-pub same-number : (p q : Product) → numberOf (wordsOf p) ≡ numberOf (wordsOf q) → p ≡ q
-same-number p q e = same-words p q (same-numbers (wordsOf p) (wordsOf q) e)
+pub same-number : (p q : Product) → number-of (words-of p) ≡ number-of (words-of q) → p ≡ q
+same-number p q e = same-words p q (same-numbers (words-of p) (words-of q) e)
 
 -- the number is the sum of two entries of the table
-pub number-by-weights : (p : Product) → weightOf (p .named) + weightOf (p .sign) ≡ numberOf (wordsOf p)
-unfolding numberOf wordsOf weightOf
+pub number-by-weights : (p : Product) → weight-of (p .named) + weight-of (p .sign) ≡ number-of (words-of p)
+unfolding number-of words-of weight-of
 number-by-weights p = sym (number-weights 12 (p .named) (p .sign) (p .within))
 
 -- the named options are the ones of the named mask
-pub size-by-ones : (p : Product) → ones (p .named) ≡ sizeOf (wordsOf p)
-unfolding sizeOf wordsOf
+pub size-by-ones : (p : Product) → ones (p .named) ≡ size-of (words-of p)
+unfolding size-of words-of
 size-by-ones p = ap ones (sym (small (p .named) (p .low))) ∙ sym (size-ones 12 (p .named) (p .sign))
 
 pub ones-few : (p : Product) → ones (p .named) ≤ 12
 ones-few p = ones-le 12 (p .named) (p .low)
 
 -- two bytes for each named option, without the `!` of the wanted ones
-pub letters-by-ones : (p : Product) → length (lettersOf (wordsOf p)) + ones (p .sign) ≡ ones (p .named) + ones (p .named)
-unfolding lettersOf wordsOf
+pub letters-by-ones : (p : Product) → length (letters-of (words-of p)) + ones (p .sign) ≡ ones (p .named) + ones (p .named)
+unfolding letters-of words-of
 letters-by-ones p =
     let a = ap ones (small (p .named) (p .low)) in
     let b = ap ones (small (p .sign) (masks-of p .signed)) in
@@ -87,11 +87,11 @@ letters-by-ones p =
     sums l x y z w a b e = omega arith
 
 -- the letters are those of the last twelve options
-pub letters-of : (p : Product) → lastLetters 12 (p .named) (p .sign) ≡ lettersOf (wordsOf p)
-unfolding lettersOf wordsOf lastLetters
-letters-of p = refl
+pub letters-by-bits : (p : Product) → last-letters 12 (p .named) (p .sign) ≡ letters-of (words-of p)
+unfolding letters-of words-of last-letters
+letters-by-bits p = refl
 
 -- the test of a version by masks
-pub meets-by-masks : (p : Product) (v : ℕ) → eqb (bitAnd v (p .named)) (p .sign) ≡ meetsOf (wordsOf p) (versionOf v)
-unfolding meetsOf wordsOf versionOf
+pub meets-by-masks : (p : Product) (v : ℕ) → eqb (bitAnd v (p .named)) (p .sign) ≡ meets-of (words-of p) (version-of v)
+unfolding meets-of words-of version-of
 meets-by-masks p v = meets-masks (p .named) (p .sign) v (p .low) (p .within)

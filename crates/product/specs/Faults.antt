@@ -4,11 +4,11 @@ use Rattle.product.specs.declared.faults.ProductFault.{ProductFault}
 use Rattle.product.specs.declared.faults.ProductFault.the-variants.{NotProduct, ShortOutput}
 
 -- The number of a fault.
-abbrev pub faultNumber : ProductFault → ℕ
-faultNumber NotProduct = 5
-faultNumber ShortOutput = 15
+abbrev pub fault-number : ProductFault → ℕ
+fault-number NotProduct = 5
+fault-number ShortOutput = 15
 
 -- Neither fault has a place in a text.
-abbrev pub faultPlace : ProductFault → ℕ
-faultPlace NotProduct = 0
-faultPlace ShortOutput = 0
+abbrev pub fault-place : ProductFault → ℕ
+fault-place NotProduct = 0
+fault-place ShortOutput = 0

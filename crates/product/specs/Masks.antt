@@ -26,8 +26,8 @@ unfoldable pub literal : ℕ → ℕ → ℕ → List ℕ
 literal named sign j = spell (word (bit named j) (bit sign j)) (108 - j)
 
 -- The bytes of the last n of the twelve options, which lie at the bits below n.
-unfoldable pub lastLetters : ℕ → ℕ → ℕ → List ℕ
-lastLetters n named sign = letters n (109 - n) (words n named sign)
+unfoldable pub last-letters : ℕ → ℕ → ℕ → List ℕ
+last-letters n named sign = letters n (109 - n) (words n named sign)
 
 -- The word wants its option.
 abbrev pub wants : Word → Bool
@@ -36,19 +36,19 @@ wants refused = false
 wants wanted = true
 
 -- The mask of the named options.
-abbrev pub namedMask : (n : ℕ) → Words n → ℕ
-namedMask zero p = 0
-namedMask (suc n) p = cond (names (p .0)) (2 ^ n) 0 + namedMask n (p .1)
+abbrev pub named-mask : (n : ℕ) → Words n → ℕ
+named-mask zero p = 0
+named-mask (suc n) p = cond (names (p .0)) (2 ^ n) 0 + named-mask n (p .1)
 
 -- The mask of the wanted options.
-abbrev pub signMask : (n : ℕ) → Words n → ℕ
-signMask zero p = 0
-signMask (suc n) p = cond (wants (p .0)) (2 ^ n) 0 + signMask n (p .1)
+abbrev pub sign-mask : (n : ℕ) → Words n → ℕ
+sign-mask zero p = 0
+sign-mask (suc n) p = cond (wants (p .0)) (2 ^ n) 0 + sign-mask n (p .1)
 
 -- The mask of a version.
-abbrev pub versionMask : (n : ℕ) → Version n → ℕ
-versionMask zero v = 0
-versionMask (suc n) v = cond (v .0) (2 ^ n) 0 + versionMask n (v .1)
+abbrev pub version-mask : (n : ℕ) → Version n → ℕ
+version-mask zero v = 0
+version-mask (suc n) v = cond (v .0) (2 ^ n) 0 + version-mask n (v .1)
 
 -- Masks of twelve bits with no sign bit where the named bit is 0.
 pub record Masks (named sign : ℕ) : Type 0 where

@@ -9,6 +9,6 @@ use Rattle.product.specs.declared.faults.ProductFault.{ProductFault}
 use Rattle.product.specs.declared.faults.ProductFault.the-variants.{ShortOutput}
 
 -- The bytes stand at the start of the output, or do not fit and nothing is changed.
-abbrev pub Spelled : List ℕ → List ℕ → List ℕ → Result ℕ ProductFault → Type 0
-Spelled bytes old new (Ok n) = (n ≡ length bytes) × (n ≤ length old) × (new ≡ bytes ++ drop n old)
-Spelled bytes old new (Err e) = (length old < length bytes) × (e ≡ ShortOutput) × (new ≡ old)
+abbrev pub Written : List ℕ → List ℕ → List ℕ → Result ℕ ProductFault → Type 0
+Written bytes old new (Ok n) = (n ≡ length bytes) × (n ≤ length old) × (new ≡ bytes ++ drop n old)
+Written bytes old new (Err e) = (length old < length bytes) × (e ≡ ShortOutput) × (new ≡ old)

@@ -10,8 +10,8 @@ weight zero m = 0
 weight (suc i) m = m / 2 ^ i % 2 * 3 ^ i + weight i m
 
 -- The sum of 3 ^ i over the bits i of a mask of twelve bits.
-unfoldable pub weightOf : ℕ → ℕ
-weightOf m = weight 12 m
+unfoldable pub weight-of : ℕ → ℕ
+weight-of m = weight 12 m
 
 -- A test passes at each entry of a list and its place, counted from i.
 abbrev pub every : (ℕ → ℕ → Bool) → ℕ → List ℕ → Bool

@@ -4,8 +4,8 @@ ghost use Prim.Native.Nat.{_^_, _<_, _≤_};
 ghost use lib.Count.{ones};
 ghost use lib.ListN.{length};
 ghost use Rattle.product.specs.declared.masks.Product.{Product};
-ghost use Rattle.product.specs.Outcome.{Spelled};
-ghost use Rattle.product.specs.Products.{wordsOf, versionOf, numberOf, sizeOf, lettersOf, meetsOf};
+ghost use Rattle.product.specs.Outcome.{Written};
+ghost use Rattle.product.specs.Products.{words-of, version-of, number-of, size-of, letters-of, meets-of};
 
 mod faults;
 mod masks;
@@ -20,8 +20,8 @@ use weights::weight;
 impl Product {
     // The number in base 3: a wanted option counts twice, once by its name and once by its sign.
     pub fn number(self) -> u32
-        ensures value { λ r. ⌜ r ≡ numberOf (wordsOf self) ⌝ }
-        ensures one { λ r. ⌜ ((q : Product) → numberOf (wordsOf q) ≡ r → q ≡ self) ⌝ }
+        ensures value { λ r. ⌜ r ≡ number-of (words-of self) ⌝ }
+        ensures one { λ r. ⌜ ((q : Product) → number-of (words-of q) ≡ r → q ≡ self) ⌝ }
         ensures few { λ r. ⌜ r < 3 ^ 12 ⌝ }
     {
         weight(self.named) + weight(self.sign)
@@ -29,7 +29,7 @@ impl Product {
 
     // How many options are named.
     pub fn length(self) -> u32
-        ensures value { λ r. ⌜ r ≡ sizeOf (wordsOf self) ⌝ }
+        ensures value { λ r. ⌜ r ≡ size-of (words-of self) ⌝ }
         ensures count { λ r. ⌜ r ≡ ones (self .named) ⌝ }
         ensures few { λ r. ⌜ r ≤ 12 ⌝ }
     {
@@ -38,7 +38,7 @@ impl Product {
 
     // Two bytes for each named option, without the `!` of the wanted ones.
     pub fn letters_len(self) -> usize
-        ensures value { λ r. ⌜ r ≡ length (lettersOf (wordsOf self)) ⌝ }
+        ensures value { λ r. ⌜ r ≡ length (letters-of (words-of self)) ⌝ }
         ensures few { λ r. ⌜ r ≤ 24 ⌝ }
     {
         (2 * self.length() - self.sign.count_ones()) as usize
@@ -46,7 +46,7 @@ impl Product {
 
     // Writes the letters to the start of `out`, or nothing where they do not fit.
     pub fn letters(self, out: &mut [u8]) -> Result<usize, ProductFault>
-        ensures { λ r. ⌜ Spelled (lettersOf (wordsOf self)) (now (out .entry)) (now (out .exit)) r ⌝ }
+        ensures { λ r. ⌜ Written (letters-of (words-of self)) (now (out .entry)) (now (out .exit)) r ⌝ }
     {
         if out.len() < self.letters_len() {
             return Err(ProductFault::ShortOutput);
@@ -54,9 +54,9 @@ impl Product {
         Ok(put_letters(out, 0, self, 12))
     }
 
-    // Whether the version has at each named option the sign that the product asks for.
+    // Whether the version has at each named option the sign that the product asks for; bits above the twelve make no difference.
     pub fn meets(self, version: u16) -> bool
-        ensures { λ r. ⌜ r ≡ meetsOf (wordsOf self) (versionOf version) ⌝ }
+        ensures { λ r. ⌜ r ≡ meets-of (words-of self) (version-of version) ⌝ }
     {
         version & self.named == self.sign
     }

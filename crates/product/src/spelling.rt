@@ -3,7 +3,7 @@ ghost use mathlib.Core.List.{[], _∷_};
 ghost use Prim.Native.Nat.{_+_, _-_, _<_, _≤_};
 ghost use lib.ListN.{length};
 ghost use Rattle.product.specs.Bits.{bit};
-ghost use Rattle.product.specs.Masks.{literal, lastLetters};
+ghost use Rattle.product.specs.Masks.{literal, last-letters};
 ghost use Rattle.product.specs.Put.{Put};
 use crate::masks::Product;
 
@@ -59,8 +59,8 @@ fn put_literal(out: &mut [u8], at: usize, product: Product, j: u8) -> usize
 // Writes the literals of the last n options from a place on, and answers the place after them.
 pub(crate) fn put_letters(out: &mut [u8], at: usize, product: Product, n: u8) -> usize
     requires few { ⌜ n ≤ 12 ⌝ }
-    requires room { ⌜ at + length (lastLetters n (product .named) (product .sign)) ≤ length (now out) ⌝ }
-    ensures { λ r. ⌜ Put (lastLetters n (product .named) (product .sign)) at (now (out .entry)) (now (out .exit)) r ⌝ }
+    requires room { ⌜ at + length (last-letters n (product .named) (product .sign)) ≤ length (now out) ⌝ }
+    ensures { λ r. ⌜ Put (last-letters n (product .named) (product .sign)) at (now (out .entry)) (now (out .exit)) r ⌝ }
 {
     if n == 0 {
         return at;

@@ -2,7 +2,7 @@ ghost use mathlib.Core.Path.{_≡_};
 ghost use Prim.Native.Nat.{_<_};
 ghost use lib.Dec.{T};
 ghost use lib.ListN.{length};
-ghost use Rattle.product.specs.Weights.{weightOf, every, right};
+ghost use Rattle.product.specs.Weights.{weight-of, every, right};
 
 // Entry m is the sum of 3^i over the bits i of m.
 #[rattlefmt::skip]
@@ -269,7 +269,7 @@ const WEIGHTS: [u32; 4096] = [
 fn entry(table: &[u32], mask: u16) -> u32
     requires long { ⌜ mask < length (now table) ⌝ }
     requires rule { ⌜ T (every right 0 (now table)) ⌝ }
-    ensures { λ r. ⌜ r ≡ weightOf mask ⌝ }
+    ensures { λ r. ⌜ r ≡ weight-of mask ⌝ }
 {
     table[mask as usize]
 }
@@ -277,7 +277,7 @@ fn entry(table: &[u32], mask: u16) -> u32
 // The weight of a mask of twelve bits.
 pub(crate) fn weight(mask: u16) -> u32
     requires { ⌜ mask < 4096 ⌝ }
-    ensures { λ r. ⌜ r ≡ weightOf mask ⌝ }
+    ensures { λ r. ⌜ r ≡ weight-of mask ⌝ }
 {
     entry(&WEIGHTS, mask)
 }

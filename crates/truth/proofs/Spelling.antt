@@ -12,7 +12,7 @@ use Rattle.formula.specs.declared.steps.Step.{Step}
 use Rattle.formula.specs.declared.steps.Step.the-variants.{Load, Negate, Apply}
 use Rattle.formula.specs.Notation.{Shows}
 use Rattle.formula.specs.Grammar.{Tree, postfix, Derives, single, negated, bracket, looser, chained, once}
-use Rattle.truth.specs.Report.{Symbols, Marks, Spelt, Known}
+use Rattle.truth.specs.Report.{Symbols, Marks, Appended, Known}
 
 operator-known : (op : Operator) → (b : ℕ) × Shows b (Apply op)
 operator-known And = (38, refl)
@@ -50,8 +50,8 @@ symbols-more (u ∷ ss) s bs b e h = (e .0, e .1 ++ 32 ∷ b ∷ [], e .2, ap (�
 marks-shows : (s : Step) (b : ℕ) → Marks s b → ((c : ℕ) × Shows c s) → Shows b s
 marks-shows s b m k = ⊎-elim (λ h. h) (λ n. absurd (n .0 (k .0) (k .1))) m
 
-pub spelt-more : (ss : List Step) (i : ℕ) (d : Step) (b : ℕ) (before mid after : List ℕ) → Known ss → i < length ss → Spelt (take i ss) before mid → Marks (getD ss i d) b → after ≡ mid ++ 32 ∷ b ∷ [] → Spelt (take (i + 1) ss) before after
-spelt-more ss i d b before mid after k h sp m e = record {
+pub appended-more : (ss : List Step) (i : ℕ) (d : Step) (b : ℕ) (before mid after : List ℕ) → Known ss → i < length ss → Appended (take i ss) before mid → Marks (getD ss i d) b → after ≡ mid ++ 32 ∷ b ∷ [] → Appended (take (i + 1) ss) before after
+appended-more ss i d b before mid after k h sp m e = record {
   symbols = sp .symbols ++ 32 ∷ b ∷ [];
   shown = subst (λ l. Symbols l (sp .symbols ++ 32 ∷ b ∷ [])) (sym (take-more ss i d h)) (symbols-more (take i ss) (getD ss i d) (sp .symbols) b (sp .shown) (marks-shows (getD ss i d) b m (known-at ss i d h k)));
   is = e ∙ ap (λ l. l ++ 32 ∷ b ∷ []) (sp .is) ∙ append-assoc before (sp .symbols) (32 ∷ b ∷ []);

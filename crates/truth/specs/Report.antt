@@ -13,7 +13,7 @@ use Rattle.formula.specs.declared.faults.FormulaFault.{FormulaFault}
 use Rattle.formula.specs.Notation.{Shows}
 use Rattle.formula.specs.Grammar.{Tree, postfix, Derives}
 use Rattle.formula.specs.Meaning.{yeses}
-use Rattle.formula.specs.Faults.{number, place}
+use Rattle.formula.specs.Faults.{fault-number, fault-place}
 use Rattle.formula.specs.Answer.{Refused}
 
 abbrev pub refusal : ℕ → ℕ → List ℕ
@@ -39,7 +39,7 @@ abbrev pub Marks : Step → ℕ → Type 0
 Marks s b = Shows b s ⊎ (((c : ℕ) → Shows c s → ⊥) × (b ≡ 63))
 
 -- what stands after steps that all have a character
-pub record Spelt (ss : List Step) (before after : List ℕ) : Type 0 where
+pub record Appended (ss : List Step) (before after : List ℕ) : Type 0 where
   pub symbols : List ℕ
   pub shown : Symbols ss symbols
   pub is : after ≡ before ++ symbols
@@ -66,7 +66,7 @@ pub record Counted (text out : List ℕ) : Type 0 where
 pub record Faulty (text out : List ℕ) : Type 0 where
   pub fault : FormulaFault
   pub refused : Refused text fault
-  pub is : out ≡ refusal (number fault) (place fault)
+  pub is : out ≡ refusal (fault-number fault) (fault-place fault)
 
 -- all that is printed for a text
 abbrev pub Report : List ℕ → List ℕ → Type 0

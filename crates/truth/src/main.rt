@@ -5,12 +5,11 @@ use std::io::Write;
 
 mod report;
 
-// The longest formula, its line feed, and one byte more to tell a longer text by.
-const INPUT_LIMIT: u64 = 4098;
-
 fn main(rt: LibcRuntime) -> io::Result<()> {
     let mut input = Vec::new(rt.alloc());
-    rt.stdin().take(INPUT_LIMIT).read_to_end(&mut input)?;
-    let answer = report::report(rt.alloc(), report::without_line_feed(input.as_slice()))?;
+    rt.stdin()
+        .take(report::INPUT_LIMIT)
+        .read_to_end(&mut input)?;
+    let answer = report::answer(rt.alloc(), input.as_slice())?;
     rt.stdout().write_all(answer.as_slice())
 }

@@ -7,17 +7,20 @@ ghost use Rattle.std.specs.Of.String.{string-bytes};
 ghost use Rattle.std.specs.Of.Vec.{vec-items};
 ghost use Rattle.std.specs.Vec.{made};
 ghost use Rattle.formula.specs.Grammar.{Tree, postfix};
-ghost use Rattle.formula.specs.Faults.{number, place};
+ghost use Rattle.formula.specs.Faults.{fault-number, fault-place};
 ghost use Rattle.formula.specs.Answer.{steps-of};
-ghost use Rattle.truth.specs.Report.{refusal, read-line, yes-line, unended, Marks, Known, Spelt, Tells, Report};
+ghost use Rattle.truth.specs.Report.{refusal, read-line, yes-line, unended, Marks, Known, Appended, Tells, Report};
 use formula::Formula;
 use formula::FormulaFault;
 use formula::Step;
 use std::alloc::AllocError;
 use std::alloc::Global;
 
+// As much of the input as can matter: the longest formula, its line feed, and one byte more to tell a longer text by.
+pub const INPUT_LIMIT: u64 = 4098;
+
 // The text without one final line feed.
-pub fn without_line_feed(text: &[u8]) -> &[u8]
+fn without_line_feed(text: &[u8]) -> &[u8]
     ensures { λ r. ⌜ now r ≡ unended (now (text .entry)) ⌝ }
 {
     if text.is_empty() {
@@ -31,10 +34,10 @@ pub fn without_line_feed(text: &[u8]) -> &[u8]
     }
 }
 
-fn refusal(heap: Global, number: u8, place: usize) -> Result<String, AllocError>
-    ensures { λ r. ⌜ made r (λ s. string-bytes s ≡ refusal number place) ⌝ }
+fn refusal(heap: Global, why: u8, at: usize) -> Result<String, AllocError>
+    ensures { λ r. ⌜ made r (λ s. string-bytes s ≡ refusal why at) ⌝ }
 {
-    format!(heap, "REFUSED,{number},{place}\n")
+    format!(heap, "REFUSED,{why},{at}\n")
 }
 
 fn read_line(heap: Global, bytes: usize, steps: usize) -> Result<String, AllocError>
@@ -66,7 +69,7 @@ fn character(step: Step) -> u8
 
 fn append_symbols(out: &mut Vec<u8>, steps: &[Step]) -> Result<(), AllocError>
     requires { ⌜ Known (now steps) ⌝ }
-    ensures { λ r. ⌜ made r (λ _. Spelt (now (steps .entry)) (vec-items (now (out .entry))) (vec-items (now (out .exit)))) ⌝ }
+    ensures { λ r. ⌜ made r (λ _. Appended (now (steps .entry)) (vec-items (now (out .entry))) (vec-items (now (out .exit)))) ⌝ }
 {
     for step in steps {
         append(out, &[b' ', character(*step)])?;
@@ -89,14 +92,14 @@ fn counted(heap: Global, bytes: usize, f: &Formula) -> Result<Vec<u8>, AllocErro
 }
 
 fn faulty(heap: Global, e: FormulaFault) -> Result<Vec<u8>, AllocError>
-    ensures { λ r. ⌜ made r (λ out. vec-items out ≡ refusal (number e) (place e)) ⌝ }
+    ensures { λ r. ⌜ made r (λ out. vec-items out ≡ refusal (fault-number e) (fault-place e)) ⌝ }
 {
     let line = refusal(heap, e.number(), e.place())?;
     line.as_bytes().to_vec(heap)
 }
 
 // All that is printed for a text.
-pub fn report(heap: Global, text: &[u8]) -> Result<Vec<u8>, AllocError>
+fn report(heap: Global, text: &[u8]) -> Result<Vec<u8>, AllocError>
     ensures { λ r. ⌜ made r (λ out. Report (now (text .entry)) (vec-items out)) ⌝ }
 {
     let mut f = Formula::new();
@@ -104,4 +107,11 @@ pub fn report(heap: Global, text: &[u8]) -> Result<Vec<u8>, AllocError>
         Ok(()) => counted(heap, text.len(), &f),
         Err(e) => faulty(heap, e),
     }
+}
+
+// All that is printed for an input, from its first 4,098 bytes; an error is a want of memory.
+pub fn answer(heap: Global, input: &[u8]) -> Result<Vec<u8>, AllocError>
+    ensures { λ r. ⌜ made r (λ out. (all : List ℕ) → now (input .entry) ≡ take 4098 all → Report (unended all) (vec-items out)) ⌝ }
+{
+    report(heap, without_line_feed(input))
 }

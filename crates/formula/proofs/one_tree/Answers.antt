@@ -1,6 +1,6 @@
 use Rattle.formula.proofs.Drive.{unique}
-use Rattle.formula.proofs.Values.{one-spelling}
+use Rattle.formula.proofs.Values.{postfix-injective}
 use Rattle.formula.proofs.one_tree.Needs as need
 
 pub returns : need.returns
-returns c = record { text = unique; steps = one-spelling }
+returns c = record { text = unique; steps = postfix-injective }

@@ -14,7 +14,7 @@ abbrev pub μ-operand : given.MeasureT-operand
 abbrev pub μ-primary : given.MeasureT-primary
 μ-primary l = 9 * (32 - l .depth)
 
--- over any steps written before the first operand, since the loop does neg know those at the call
+-- over any steps written before the first operand, since the loop does not know those at the call
 abbrev pub Inv-level-loop-p : given.InvT-level-loop-p
 Inv-level-loop-p l = (l .p ≤ length (l .text)) × (l .out .len + l .entry .p ≤ l .entry .out .len + l .p) × (l .entry .p ≤ l .p) × (l .top ≤ 5) × ((before : StepBuffer) → Reads (l .text) (l .at) (l .depth) 6 6 before (l .entry .out) (l .entry .p) → Sofar (l .text) (l .at) (l .depth) (l .floor) before (l .out) (l .p) (l .top))
 
