@@ -1,0 +1,10 @@
+pub mod Settings
+pub mod Restrictions
+pub mod Tables
+pub mod Canon
+pub mod Growth
+pub mod Descent
+pub mod Counting
+pub mod Outcome
+pub mod Counted
+pub mod Account
