@@ -1,0 +1,5 @@
+mod Children
+pub mod Props
+mod Runs
+pub mod Outcomes
+mod PairSteps
