@@ -1,0 +1,6 @@
+mod Props
+mod Writes
+mod Chains
+mod Exact
+mod Entering
+mod Leaving
