@@ -8,7 +8,7 @@ use table::PlainNodeTable;
 use table::PlainTable;
 
 #[derive(Clone, Copy)]
-pub enum Call {
+enum Call {
     Insert(u8, u16, u16),
     Get(u16),
     Truncate(u16),
@@ -16,14 +16,14 @@ pub enum Call {
 
 // A node is told by its level, low and high; a refusal by its number and the size that it carries.
 #[derive(Clone, Copy, PartialEq, Eq, Debug)]
-pub enum Answer {
+enum Answer {
     Handle(u16),
     Found(u8, u16, u16),
     Refused(u8, u16),
     Done,
 }
 
-pub fn perform<T: NodeTable>(table: &mut T, call: Call) -> Answer {
+fn perform<T: NodeTable>(table: &mut T, call: Call) -> Answer {
     match call {
         Call::Insert(level, low, high) => match table.insert(Node { level, low, high }) {
             Ok(h) => Answer::Handle(h),

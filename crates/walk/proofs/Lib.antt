@@ -1,0 +1,7 @@
+mod Places
+mod Shortened
+pub mod Made
+pub mod Halves
+pub mod Remembered
+pub mod Joining
+pub mod Restricting
