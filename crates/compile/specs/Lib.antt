@@ -1,0 +1,3 @@
+pub mod Trees
+pub mod Steps
+pub mod Outcomes

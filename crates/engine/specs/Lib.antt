@@ -1,0 +1,5 @@
+pub mod Faults
+pub mod Works
+pub mod Calls
+pub mod Ends
+pub mod Theorems
