@@ -1,3 +1,4 @@
 pub mod Parts
 pub mod Stacks
+pub mod Bounds
 pub mod Ran

@@ -1,10 +1,10 @@
 -- Postfix steps run on a stack of trees: what is on the stack are parts of the tree in the end. Assumes nothing.
-use mathlib.Core.Path.{_≡_, refl, sym, ap, subst, _∙_}
+use mathlib.Core.Path.{_≡_, sym, ap, subst, _∙_}
 use mathlib.Core.List.{List, [], _∷_}
 use mathlib.Core.Logic.{_⊎_, inl, inr, ⊎-elim}
 use Rattle.diagram.specs.declared.Node.{Node}
-use Rattle.diagram.specs.Functions.{Fun, Constant, Restriction, NodeOf}
-use Rattle.diagram.specs.Nodes.{Issued, meaning, Extends}
+use Rattle.diagram.specs.Functions.{Fun, Constant, Restriction}
+use Rattle.diagram.specs.Nodes.{Extends}
 use Rattle.diagram.specs.Outcomes.{Grants, Denies}
 use Rattle.diagram.proofs.Growth.{issued-kept, meaning-kept}
 use Rattle.diagram.proofs.Outcome.{grants-varying, denies-varying}
@@ -15,7 +15,7 @@ use Rattle.formula.specs.declared.steps.Step.{Step}
 use Rattle.formula.specs.declared.steps.Step.the-variants.{Load, Negate, Apply}
 use Rattle.formula.specs.Grammar.{Tree, leaf, neg, binary, postfix}
 use Rattle.formula.specs.Running.{run}
-use Rattle.formula.proofs.Values.{run-all, eval, eval-tree}
+use Rattle.formula.proofs.Values.{run-all, eval-tree}
 use Rattle.compile.specs.Trees.{of-tree, Part, whole, negated, left, right, PartNode, PartRestriction, StackRestriction, Mean}
 
 abbrev pub tree-run : List Step → List Tree → List Tree

@@ -1,7 +1,7 @@
 -- The loop over a formula's steps: what the stack holds between two of them. Assumes nothing.
 use mathlib.Core.Path.{_≡_, refl, sym, ap, subst, _∙_}
-use mathlib.Core.List.{List, [], _∷_, _++_}
-use mathlib.Core.Logic.{_⊎_, inl, inr, ⊎-elim}
+use mathlib.Core.List.{List, [], _∷_}
+use mathlib.Core.Logic.{_⊎_, inl, ⊎-elim}
 use Prim.Native.Nat.{ℕ, zero, suc, _+_, _-_, _≤_, _<_}
 use native.Mathlib.Omega.{arith}
 use Rattle.std.proofs.shelf.Lists.{drop-more}
@@ -14,22 +14,18 @@ use Rattle.diagram.specs.Outcomes.{Grants}
 use Rattle.diagram.proofs.Outcome.{grows-none, grants-then, denies-then, grants-varying, denies-up}
 use Rattle.diagram.proofs.Account.{gives-grants}
 use Rattle.table.specs.declared.faults.TableFault.{TableFault}
-use Rattle.formula.specs.declared.steps.Leaf.{Leaf}
-use Rattle.formula.specs.declared.steps.Leaf.the-variants.{Constant, Option}
 use Rattle.formula.specs.declared.steps.Operator.{Operator}
 use Rattle.formula.specs.declared.steps.Step.{Step}
 use Rattle.formula.specs.declared.steps.Step.the-variants.{Load, Negate, Apply}
-use Rattle.formula.specs.declared.steps.Token.the-variants.{Operand}
 use Rattle.formula.specs.declared.stored.Formula.{Formula}
 use Rattle.formula.specs.Answer.{steps-of}
-use Rattle.formula.specs.Notation.{notation}
-use Rattle.formula.specs.Grammar.{Tree, leaf, neg, binary, postfix, Derives, single, negated, bracket, looser, chained, once}
+use Rattle.formula.specs.Grammar.{Tree, postfix, Derives}
 use Rattle.formula.specs.Running.{run, Enough}
-use Rattle.formula.proofs.Notes.{option-bounds}
 use Rattle.walk.specs.Outcomes.{Walked}
-use Rattle.compile.specs.Trees.{of-tree, PartRestriction, StackRestriction, Mean}
+use Rattle.compile.specs.Trees.{of-tree, StackRestriction, Mean}
 use Rattle.compile.specs.Steps.{top, under, base, Bounded, handles}
 use Rattle.compile.specs.Outcomes.{Compiled}
+use Rattle.compile.proofs.Bounds.{derived-bounded}
 use Rattle.compile.proofs.Parts.{tree-run, tree-run-all, run-parts, stack-within, leaf-split, neg-split, binary-split, leaf-join, neg-join, binary-join, mean-kept}
 use Rattle.compile.proofs.Stacks.{handles-one, handles-two, handles-push}
 
@@ -119,37 +115,6 @@ one-left ns hs zero t m = absurd m
 one-left ns hs (suc zero) t m = (m .0, m .1)
 one-left ns hs (suc (suc h)) t m = absurd (m .2)
 
--- every step of a formula is bounded
-abbrev Each : List Step → Type 0
-Each [] = Unit {0}
-Each (s ∷ ss) = Bounded s × Each ss
-
-each-append : (xs ys : List Step) → Each xs → Each ys → Each (xs ++ ys)
-each-append [] ys p q = q
-each-append (x ∷ xs) ys p q = (p .0, each-append xs ys (p .1) q)
-
-each-drop : (i : ℕ) (xs : List Step) → Each xs → Each (drop i xs)
-each-drop zero xs p = p
-each-drop (suc i) [] p = tt
-each-drop (suc i) (x ∷ xs) p = each-drop i xs (p .1)
-
-leaf-bounded : (b : ℕ) (a : Leaf) → notation b ≡ Operand a → Bounded (Load a)
-leaf-bounded b (Constant v) e = tt
-leaf-bounded b (Option k) e = option-bounds b k e
-
-each-binary : (op : Operator) (l r : Tree) → Each (postfix l) → Each (postfix r) → Each (postfix (binary op l r))
-unfolding postfix
-each-binary op l r p q = each-append (postfix l ++ postfix r) (Apply op ∷ []) (each-append (postfix l) (postfix r) p q) (tt, tt)
-
-each-derived : {n k : ℕ} {text : List ℕ} {t : Tree} → Derives n k text t → Each (postfix t)
-unfolding postfix
-each-derived (single {b = b} {a = a} e) = (leaf-bounded b a e, tt)
-each-derived (negated {t = t} e d) = each-append (postfix t) (Negate ∷ []) (each-derived d) (tt, tt)
-each-derived (bracket a b e f m d) = each-derived d
-each-derived (looser d) = each-derived d
-each-derived (chained b {op = op} {l = l} {r = r} e k d f) = each-binary op l r (each-derived d) (each-derived f)
-each-derived (once b {op = op} {l = l} {r = r} e k d f) = each-binary op l r (each-derived d) (each-derived f)
-
 -- after i of the steps, with the nodes `old` before the first: the stack's trees, what the steps that are left make of them, and that they are made
 pub record Ran (steps : List Step) (i : ℕ) (old now : List Node) (hs : List ℕ) (height : ℕ) : Type 0 where
   pub trees : List Tree
@@ -194,7 +159,7 @@ module _ {steps : List Step} {i : ℕ} {old now : List Node} {hs : List ℕ} {he
     step-enough = enough now hs s height (r .trees) ready (r .mean) (omega (arith, r .low, r .few))
 
     pub step-bounded : {n k : ℕ} {text : List ℕ} → Derives n k text t → Bounded (getD steps i d)
-    step-bounded x = (subst Each next (each-drop i steps (subst Each (sym e) (each-derived x)))) .0
+    step-bounded x = derived-bounded steps i s x e next
 
     pub step-refused : {M N : ℕ} {new : List Node} {err : TableFault} → M ≡ N → Walked M now 0 (of-tree (top (getD steps i d) (r .trees))) (Err err) new → Compiled N old t (Err err) new
     step-refused {M} {N} {new} {err} m w =

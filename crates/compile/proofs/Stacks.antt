@@ -2,11 +2,12 @@
 use mathlib.Core.Path.{_≡_, refl, sym, ap, subst, _∙_, fun-ext}
 use mathlib.Core.Bool.{Bool, true, false, cond, not, Bool·beq}
 use mathlib.Core.List.{List, [], _∷_}
-use mathlib.Core.Logic.{_≢_}
+use mathlib.Core.Logic.{_≢_, inl, inr}
 use Prim.Native.Nat.{ℕ, zero, suc, _+_, _-_, _*_, _≤_, _<_}
 use native.Mathlib.Omega.{arith}
 use lib.ListN.{length, getD, set}
 use lib.Seq.{getD-set-same, getD-set-other}
+use Rattle.std.proofs.shelf.Tests.{cases-eq}
 use Rattle.std.specs.declared.result.Result.{Result}
 use Rattle.std.specs.declared.result.Result.the-variants.{Ok, Err}
 use Rattle.diagram.specs.declared.Node.{Node}
@@ -17,8 +18,8 @@ use Rattle.diagram.proofs.Account.{gives-held}
 use Rattle.table.specs.declared.faults.TableFault.{TableFault}
 use Rattle.formula.specs.declared.steps.Leaf.the-variants.{Constant, Option}
 use Rattle.formula.specs.declared.steps.Operator.{Operator}
-use Rattle.formula.specs.declared.steps.Step.the-variants.{Load, Negate, Apply}
-use Rattle.formula.specs.Grammar.{Tree, leaf, neg, binary}
+use Rattle.formula.specs.declared.steps.Step.the-variants.{Negate, Apply}
+use Rattle.formula.specs.Grammar.{Tree, leaf}
 use Rattle.formula.specs.Meaning.{combine, truth}
 use Rattle.walk.specs.declared.ops.Op.{Op}
 use Rattle.walk.specs.declared.ops.Op.the-variants.{Xor}
@@ -68,21 +69,16 @@ handles-two hs h p =
     let e : h - 1 - 1 ≡ h - 2 = omega arith in
     handles-one hs h (omega arith) ∙ ap (λ r. getD hs (h - 1) 0 ∷ r) (handles-one hs (h - 1) (omega arith) ∙ ap (λ i. getD hs i 0 ∷ handles hs i) e)
 
--- an operand of a step is issued
-first-issued : (ns : List Node) (x : ℕ) (hs : List ℕ) (us : List Tree) → Mean ns (x ∷ hs) us → Issued ns x
-first-issued ns x hs [] m = absurd m
-first-issued ns x hs (u ∷ us) m = m .0
-
-second-issued : (ns : List Node) (y x : ℕ) (hs : List ℕ) (us : List Tree) → Mean ns (y ∷ (x ∷ hs)) us → Issued ns x
-second-issued ns y x hs [] m = absurd m
-second-issued ns y x hs (u ∷ us) m = first-issued ns x hs us (m .2)
-
-module _ (ns : List Node) (hs : List ℕ) (h : ℕ) (us : List Tree) (m : Mean ns (handles hs h) us) where
-  pub last-issued : 1 ≤ h → Issued ns (getD hs (h - 1) 0)
-  last-issued p = first-issued ns _ _ us (subst (λ x. Mean ns x us) (handles-one hs h p) m)
-
-  pub before-issued : 2 ≤ h → Issued ns (getD hs (h - 2) 0)
-  before-issued p = second-issued ns _ _ _ us (subst (λ x. Mean ns x us) (handles-two hs h p) m)
+-- every handle of a stack is issued
+pub handle-issued : (ns : List Node) (hs : List ℕ) (h : ℕ) (us : List Tree) → Mean ns (handles hs h) us → (i : ℕ) → i < h → Issued ns (getD hs i 0)
+unfolding handles
+handle-issued ns hs zero us m i p = let x : ⊥ = omega arith in absurd x
+handle-issued ns hs (suc h) [] m i p = absurd m
+handle-issued ns hs (suc h) (u ∷ us) m i p =
+    elim (cases-eq i h) [
+      | inl e ↦ subst (λ k. Issued ns (getD hs k 0)) (sym e) (m .0)
+      | inr ne ↦ handle-issued ns hs h us (m .2) i (omega (arith, ne))
+    ]
 
 -- a function that differs from yes is the negation
 not-true-is : (b : Bool) → not (Bool·beq b true) ≡ not b

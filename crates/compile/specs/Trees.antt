@@ -7,7 +7,7 @@ use Rattle.diagram.specs.declared.Node.{Node}
 use Rattle.diagram.specs.Functions.{Fun, sign-level, Restriction, NodeOf}
 use Rattle.diagram.specs.Nodes.{Issued, meaning}
 use Rattle.formula.specs.declared.steps.Operator.{Operator}
-use Rattle.formula.specs.Grammar.{Tree, leaf, neg, binary}
+use Rattle.formula.specs.Grammar.{Tree, neg, binary}
 use Rattle.formula.specs.Meaning.{truth}
 
 -- a tree's truth table, as a function of the sign variables

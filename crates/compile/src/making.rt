@@ -63,13 +63,10 @@ pub(crate) fn make_step<T: NodeTable, C: Cache>(
     match step {
         Step::Load(a) => load(table, a),
         Step::Negate => apply(table, cache, Op::Xor, stack[height - 1], 1),
-        Step::Apply(op) => apply(
-            table,
-            cache,
-            op_of(op),
-            stack[height - 2],
-            stack[height - 1],
-        ),
+        Step::Apply(op) => {
+            let (x, y) = (stack[height - 2], stack[height - 1]);
+            apply(table, cache, op_of(op), x, y)
+        }
     }
 }
 

@@ -26,6 +26,7 @@ pub fn run_formula<T: NodeTable, C: Cache>(
     ensures right { λ _. ⌜ Right (nodes (now (table .exit))) (holds (now (cache .exit))) ⌝ }
     ensures value { λ r. ⌜ ((t : Tree) → steps-of (now (f .entry)) ≡ postfix t → Compiled (limit (now (table .entry))) (nodes (now (table .entry))) t r (nodes (now (table .exit)))) ⌝ }
 {
+    // A formula has at most 4,096 steps, and each puts one handle on the stack.
     let mut stack = [0u16; 4096];
     let mut height: usize = 0;
     let steps = f.steps();

@@ -48,10 +48,6 @@ made-as N M old mid new l count f g walked r q m s c w e = subst (λ x. Made N (
 pub oldest-none : (ns : List Node) → oldest 0 ns ≡ []
 oldest-none ns = drop-of-length-le ns (omega arith)
 
--- handles 0 and 1 stand below every level of a variable
-pub constant-stands : (ns : List Node) (l h : ℕ) → h < 2 → l ≤ 25 → Stands ns l h (meaning ns h)
-constant-stands ns l h c d = record { issued = omega arith; level = omega (arith, level-constant ns h c); value = refl }
-
 pub option-function : (ns : List Node) (k : ℕ) → choice (2 * k) (meaning ns 0) (meaning ns 1) ≡ of-option k
 option-function ns k =
     ap (λ f. choice (2 * k) f (meaning ns 1)) (meaning-constant ns 0 (omega arith)) ∙ ap (λ f. choice (2 * k) (λ _. false) f) (meaning-constant ns 1 (omega arith))

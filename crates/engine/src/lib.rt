@@ -1,7 +1,10 @@
 // Graphs of conditions: reduced decision diagrams over any node table, with exact node accounting.
 mod calls;
+mod cofactors;
 mod faults;
+mod formulas;
 mod graph;
+mod joins;
 mod theorems;
 
 pub use faults::GraphFault;

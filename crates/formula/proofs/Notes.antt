@@ -4,7 +4,7 @@ use Prim.Native.Nat.{ℕ, _+_, _-_, _≤_, _<_}
 use native.Mathlib.Omega.{arith}
 use mathlib.Core.Bool.{Bool, true, false, cond}
 use lib.Dec.{eqb, leb}
-use borrow.Author.Tests.{ne-eqb, le-leb, lt-leb, leb-true}
+use borrow.Author.Tests.{ne-eqb, le-leb, lt-leb}
 use Rattle.formula.specs.declared.steps.Leaf.the-variants.{Constant, Option}
 use Rattle.formula.specs.declared.steps.Operator.{Operator}
 use Rattle.formula.specs.declared.steps.Operator.the-variants.{And, Xor, Or, Implies, Iff}
@@ -13,8 +13,7 @@ use Rattle.formula.specs.declared.steps.Token.the-variants.{Operand, Negation,
 use Rattle.formula.specs.Notation.{notation}
 
 abbrev Fine : Token → Type 0
-Fine (Operand (Constant v)) = Unit {0}
-Fine (Operand (Option k)) = (1 ≤ k) × (k ≤ 12)
+Fine (Operand a) = Unit {0}
 Fine Negation = Unit {0}
 Fine (Infix k s) = (1 ≤ k) × (k ≤ 5)
 Fine Opening = Unit {0}
@@ -31,10 +30,6 @@ cond-fit false a b f g = g
 infix-fit : (k : ℕ) (s : Operator) → 1 ≤ k → k ≤ 5 → Fit (Infix k s)
 infix-fit k s h j = record { is = (h, j) }
 
-letter-fit : (b : ℕ) (x : Bool) → leb b 108 ≡ x → Fit (cond x (Operand (Option (b - 97 + 1))) Foreign)
-letter-fit b true e = record { is = (omega arith, omega (arith, leb-true b 108 e)) }
-letter-fit b false e = record { is = tt }
-
 all-fit : (b : ℕ) → Fit (notation b)
 all-fit b =
     cond-fit (eqb b 38) (Infix 5 And) _ (infix-fit 5 And (omega arith) (omega arith))
@@ -47,10 +42,7 @@ all-fit b =
     (cond-fit (eqb b 41) Closing _ (record { is = tt })
     (cond-fit (eqb b 48) (Operand (Constant false)) _ (record { is = tt })
     (cond-fit (eqb b 49) (Operand (Constant true)) _ (record { is = tt })
-    (cond-fit (leb 97 b) _ Foreign (letter-fit b (leb b 108) refl) (record { is = tt })))))))))))
+    (cond-fit (leb 97 b) _ Foreign (cond-fit (leb b 108) (Operand (Option (b - 97 + 1))) Foreign (record { is = tt }) (record { is = tt })) (record { is = tt })))))))))))
 
 pub strength-bounds : (b k : ℕ) (s : Operator) → notation b ≡ Infix k s → (1 ≤ k) × (k ≤ 5)
 strength-bounds b k s e = (subst Fit e (all-fit b)) .is
-
-pub option-bounds : (b k : ℕ) → notation b ≡ Operand (Option k) → (1 ≤ k) × (k ≤ 12)
-option-bounds b k e = (subst Fit e (all-fit b)) .is

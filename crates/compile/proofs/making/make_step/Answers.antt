@@ -4,7 +4,7 @@ use Rattle.formula.specs.Running.{Enough}
 use Rattle.walk.proofs.Remembered.{right-kept}
 use Rattle.compile.specs.Trees.{of-tree}
 use Rattle.compile.specs.Steps.{Bounded, top}
-use Rattle.compile.proofs.Stacks.{walked-as, walked-extends, last-issued, before-issued, negate-function, apply-function}
+use Rattle.compile.proofs.Stacks.{walked-as, walked-extends, handle-issued, negate-function, apply-function}
 use Rattle.compile.proofs.making.make_step.Needs as need
 
 pub load-requires : need.load-requires
@@ -27,7 +27,7 @@ apply-requires g c κs =
     let n = subst (λ s. Enough s (c .args .height)) (c .in-Negate .is) (c .pre .enough) in
     record {
       sound = c .pre .sound;
-      f = last-issued ns (c .args .stack .now) (c .args .height) (c .pre .means .0) (c .pre .means .1) (n .0);
+      f = handle-issued ns (c .args .stack .now) (c .args .height) (c .pre .means .0) (c .pre .means .1) _ (omega (arith, n .0));
       g = omega arith;
       right = c .pre .right;
     }
@@ -51,8 +51,8 @@ apply-requires-in-Apply g c κs =
     let n = subst (λ s. Enough s (c .args .height)) (c .in-Apply .is) (c .pre .enough) in
     record {
       sound = c .pre .sound;
-      f = before-issued ns (c .args .stack .now) (c .args .height) (c .pre .means .0) (c .pre .means .1) (n .0);
-      g = last-issued ns (c .args .stack .now) (c .args .height) (c .pre .means .0) (c .pre .means .1) (omega (arith, n .0));
+      f = handle-issued ns (c .args .stack .now) (c .args .height) (c .pre .means .0) (c .pre .means .1) _ (omega (arith, n .0));
+      g = handle-issued ns (c .args .stack .now) (c .args .height) (c .pre .means .0) (c .pre .means .1) _ (omega (arith, n .0));
       right = c .pre .right;
     }
 

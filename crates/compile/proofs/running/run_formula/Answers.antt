@@ -1,11 +1,7 @@
 use mathlib.Core.Path.{refl, _∙_}
-use mathlib.Core.Bool.{false}
 use Prim.Native.Nat.{ℕ}
-use native.Mathlib.Omega.{arith}
 use lib.ListN.{length-replicate}
 use Rattle.std.proofs.shelf.Results.{err-from-errBy}
-use Rattle.formula.specs.declared.steps.Leaf.the-variants.{Constant}
-use Rattle.formula.specs.declared.steps.Step.the-variants.{Load}
 use Rattle.compile.proofs.Ran.{steps-few, ran-none, ran-done, step-bounded, step-enough, step-refused, step-ran}
 use Rattle.compile.proofs.running.run_formula.Needs as need
 

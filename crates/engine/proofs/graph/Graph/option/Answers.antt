@@ -1,7 +1,8 @@
 use mathlib.Core.Logic.{inl}
 use mathlib.Core.Path.{_∙_}
 use native.Mathlib.Omega.{arith}
-use Rattle.engine.proofs.Making.{made-as, constant-stands, option-function}
+use Rattle.compile.proofs.Stacks.{constant-stands}
+use Rattle.engine.proofs.Making.{made-as, option-function}
 use Rattle.engine.proofs.graph.Graph.option.Needs as need
 
 pub make-walked-requires : need.make-walked-requires
