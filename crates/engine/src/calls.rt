@@ -18,7 +18,7 @@ use table::Reason;
 use table::TableFault;
 use walk::Cache;
 use walk::DirectCache;
-use walk::DirectCacheCache;
+use walk::DirectMapped;
 use walk::Op;
 use walk::apply;
 use walk::make;
@@ -90,7 +90,11 @@ impl<T: NodeTable> Graph<T> {
     }
 
     // Ends a call after its walk: where that was refused, its nodes are taken back.
-    pub(crate) fn end(&mut self, held: u16, walked: Result<u16, TableFault>) -> Result<u16, GraphFault>
+    pub(crate) fn end(
+        &mut self,
+        held: u16,
+        walked: Result<u16, TableFault>,
+    ) -> Result<u16, GraphFault>
         ensures ended { λ r. ⌜ Ended held walked (nodes (now (self .entry) .table)) r (nodes (now (self .exit) .table)) ⌝ }
         ensures size { λ _. ⌜ limit (now (self .exit) .table) ≡ limit (now (self .entry) .table) ⌝ }
         ensures rest { λ _. ⌜ rest (now (self .exit) .table) ≡ rest (now (self .entry) .table) ⌝ }

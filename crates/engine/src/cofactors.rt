@@ -5,7 +5,7 @@ use crate::faults::GraphFaultFromTable;
 use crate::graph::Graph;
 use table::NodeTable;
 use walk::Cache;
-use walk::DirectCacheCache;
+use walk::DirectMapped;
 use walk::restrict;
 
 impl<T: NodeTable> Graph<T> {

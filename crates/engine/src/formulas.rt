@@ -7,7 +7,7 @@ use compile::run_formula;
 use formula::Formula;
 use table::NodeTable;
 use walk::Cache;
-use walk::DirectCacheCache;
+use walk::DirectMapped;
 
 impl<T: NodeTable> Graph<T> {
     // A formula's condition; every part of the formula is made too.

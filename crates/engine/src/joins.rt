@@ -9,7 +9,7 @@ use compile::op_of;
 use formula::Operator;
 use table::NodeTable;
 use walk::Cache;
-use walk::DirectCacheCache;
+use walk::DirectMapped;
 use walk::apply;
 
 impl<T: NodeTable> Graph<T> {

@@ -34,7 +34,11 @@ fn and_refused<T: NodeTable + Drop>(table: T) -> Result<(), Fail> {
     check_eq(graph.len(), 2)
 }
 
-const BLANK: Node = Node { level: 0, low: 0, high: 0 };
+const BLANK: Node = Node {
+    level: 0,
+    low: 0,
+    high: 0,
+};
 
 #[test]
 fn ands() -> Result<(), Fail> {

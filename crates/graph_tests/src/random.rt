@@ -59,7 +59,8 @@ fn answer_at<T: NodeTable>(graph: &Graph<T>, handle: u16, version: u16) -> bool 
     for _ in 0..24 {
         match graph.get(h) {
             Ok(n) => {
-                let sign = n.level % 2 == 0 && (version >> 12u8.saturating_sub(n.level / 2)) % 2 == 1;
+                let sign = n.level % 2 == 0
+                    && (version >> 12u8.saturating_sub(n.level / 2)) % 2 == 1;
                 h = if sign { n.high } else { n.low };
             }
             Err(_) => return h == 1,
@@ -84,7 +85,10 @@ fn compare_many<T: NodeTable + Drop>(table: T, count: u32) -> Result<(), Fail> {
     let mut graph = Graph::new(table);
     let mut seed = 1;
     for _ in 0..count {
-        let mut text = Text { bytes: [0; 4096], len: 0 };
+        let mut text = Text {
+            bytes: [0; 4096],
+            len: 0,
+        };
         seed = grow(&mut text, seed, 5);
         if text.len <= 4096 {
             compare(&mut graph, &text.bytes[0..text.len])?;
@@ -101,6 +105,10 @@ fn packed_random(rt: LibcRuntime) -> Result<(), Fail> {
 
 #[test]
 fn plain_random(rt: LibcRuntime) -> Result<(), Fail> {
-    let mut run = vec![in rt.alloc(); Node { level: 0, low: 0, high: 0 }; 20000]?;
+    let mut run = vec![in rt.alloc(); Node {
+        level: 0,
+        low: 0,
+        high: 0
+    }; 20000]?;
     compare_many(PlainTable::new(run.as_mut_slice()), 100)
 }

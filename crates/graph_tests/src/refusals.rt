@@ -40,7 +40,11 @@ fn texts<T: NodeTable + Drop>(table: T) -> Result<(), Fail> {
     check_eq(graph.len(), 0)
 }
 
-const BLANK: Node = Node { level: 0, low: 0, high: 0 };
+const BLANK: Node = Node {
+    level: 0,
+    low: 0,
+    high: 0,
+};
 
 #[test]
 fn all_numbers() -> Result<(), Fail> {

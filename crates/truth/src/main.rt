@@ -1,8 +1,9 @@
-// Reads a formula from standard input, and prints its steps and at how many versions it is yes, or why it is refused.
+// Reads a formula from standard input, and prints its steps, at how many versions it is yes and its graph, or why it is refused.
 use std::io;
 use std::io::Read;
 use std::io::Write;
 
+mod build;
 mod report;
 
 fn main(rt: LibcRuntime) -> io::Result<()> {

@@ -7,17 +7,21 @@ ghost use Rattle.std.specs.Of.String.{string-bytes};
 ghost use Rattle.std.specs.Of.Vec.{vec-items};
 ghost use Rattle.std.specs.Vec.{made};
 ghost use Rattle.formula.specs.Grammar.{Tree, postfix};
-ghost use Rattle.formula.specs.Faults.{fault-number, fault-place};
-ghost use Rattle.formula.specs.Answer.{steps-of};
-ghost use Rattle.truth.specs.Report.{refusal, read-line, yes-line, unended, Marks, Known, Appended, Tells, Report};
+ghost use Rattle.formula.specs.Answer.{steps-of, Read};
+ghost use Rattle.engine.specs.Faults.{graph-number, graph-place};
+ghost use Rattle.truth.specs.Report.{refusal, read-line, yes-line, graph-line, unended, Marks, Known, Appended, Tells, Formed, Counted, Report};
+use crate::build::build;
+use engine::GraphFault;
 use formula::Formula;
-use formula::FormulaFault;
 use formula::Step;
 use std::alloc::AllocError;
 use std::alloc::Global;
 
 // As much of the input as can matter: the longest formula, its line feed, and one byte more to tell a longer text by.
 pub const INPUT_LIMIT: u64 = 4098;
+
+// The bytes of the packed table; its size is then 8,128.
+const TABLE_BYTES: usize = 65536;
 
 // The text without one final line feed.
 fn without_line_feed(text: &[u8]) -> &[u8]
@@ -52,6 +56,12 @@ fn yes_line(heap: Global, yes: u16) -> Result<String, AllocError>
     format!(heap, "\nyes in {yes} of 4096 versions\n")
 }
 
+fn graph_line(heap: Global, handle: u16, nodes: u16) -> Result<String, AllocError>
+    ensures { λ r. ⌜ made r (λ s. string-bytes s ≡ graph-line handle nodes) ⌝ }
+{
+    format!(heap, "graph: handle {handle}, {nodes} nodes of 8128\n")
+}
+
 fn append(out: &mut Vec<u8>, bytes: &[u8]) -> Result<(), AllocError>
     ensures { λ r. ⌜ made r (λ _. vec-items (now (out .exit)) ≡ vec-items (now (out .entry)) ++ now (bytes .entry)) ⌝ }
 {
@@ -77,6 +87,7 @@ fn append_symbols(out: &mut Vec<u8>, steps: &[Step]) -> Result<(), AllocError>
     Ok(())
 }
 
+// The first two lines for a formula of so many bytes.
 fn counted(heap: Global, bytes: usize, f: &Formula) -> Result<Vec<u8>, AllocError>
     requires { ⌜ Known (steps-of (now f)) ⌝ }
     ensures { λ r. ⌜ made r (λ out. (t : Tree) → steps-of (now (f .entry)) ≡ postfix t → Tells bytes t (vec-items out)) ⌝ }
@@ -91,8 +102,30 @@ fn counted(heap: Global, bytes: usize, f: &Formula) -> Result<Vec<u8>, AllocErro
     Ok(out)
 }
 
-fn faulty(heap: Global, e: FormulaFault) -> Result<Vec<u8>, AllocError>
-    ensures { λ r. ⌜ made r (λ out. vec-items out ≡ refusal (fault-number e) (fault-place e)) ⌝ }
+// Reads a text that is a formula.
+fn parsed(text: &[u8]) -> Formula
+    requires { ⌜ Formed (now text) ⌝ }
+    ensures { λ r. ⌜ Read (now (text .entry)) r ⌝ }
+{
+    let mut f = Formula::new();
+    let _ = f.read(text);
+    f
+}
+
+// The three lines for a formula.
+fn granted(heap: Global, text: &[u8], handle: u16, nodes: u16) -> Result<Vec<u8>, AllocError>
+    requires { ⌜ Formed (now text) ⌝ }
+    ensures { λ r. ⌜ made r (λ out. Counted (now (text .entry)) handle nodes (vec-items out)) ⌝ }
+{
+    let f = parsed(text);
+    let mut out = counted(heap, text.len(), &f)?;
+    let last = graph_line(heap, handle, nodes)?;
+    append(&mut out, last.as_bytes())?;
+    Ok(out)
+}
+
+fn faulty(heap: Global, e: GraphFault) -> Result<Vec<u8>, AllocError>
+    ensures { λ r. ⌜ made r (λ out. vec-items out ≡ refusal (graph-number e) (graph-place e)) ⌝ }
 {
     let line = refusal(heap, e.number(), e.place())?;
     line.as_bytes().to_vec(heap)
@@ -102,9 +135,10 @@ fn faulty(heap: Global, e: FormulaFault) -> Result<Vec<u8>, AllocError>
 fn report(heap: Global, text: &[u8]) -> Result<Vec<u8>, AllocError>
     ensures { λ r. ⌜ made r (λ out. Report (now (text .entry)) (vec-items out)) ⌝ }
 {
-    let mut f = Formula::new();
-    match f.read(text) {
-        Ok(()) => counted(heap, text.len(), &f),
+    let mut bytes = vec![in heap; 0u8; TABLE_BYTES]?;
+    let call = build(bytes.as_mut_slice(), text);
+    match call.answer {
+        Ok(handle) => granted(heap, text, handle, call.nodes),
         Err(e) => faulty(heap, e),
     }
 }

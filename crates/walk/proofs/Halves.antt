@@ -30,7 +30,7 @@ branch-sides {ns} {l} {h} {lo} {hi} w p x = split-sides ns l h lo hi w p (omega 
 refused-limit : {m n : ℕ} {f : Fun} {old new : List Node} {e : TableFault} → m ≡ n → Refused m f old e new → Refused n f old e new
 refused-limit p x = record { is = x .is ∙ ap (fault Full) p; denies = denies-limit p (x .denies) }
 
--- f is the choice at l of two sides; the second half is walked where the first has left the table, under the function's name there.
+-- f is the choice at l of lo and hi. The second half is walked in the nodes that the first has left, where its function is hi′, the same as hi.
 module _ {l : ℕ} {f lo hi : Fun} (d : Sides l f lo hi) where
   pub low-refused : {N i k : ℕ} {a b : List Node} {e : TableFault} → Walked N a i lo (Err e) b → Walked N a k f (Err e) b
   low-refused x = record { outcome = record { is = x .outcome .is; denies = denies-low d (x .outcome .denies) } }

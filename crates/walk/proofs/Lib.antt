@@ -3,5 +3,5 @@ mod Shortened
 pub mod Made
 pub mod Halves
 pub mod Remembered
-pub mod Joining
-pub mod Restricting
+mod Joining
+mod Restricting

@@ -10,7 +10,7 @@ use Rattle.std.specs.declared.option.Option.{Option}
 use Rattle.std.specs.declared.option.Option.the-variants.{None, Some}
 use Rattle.std.proofs.shelf.Tests.{cases-eq}
 use Rattle.walk.specs.declared.cache.Entry.{Entry}
-use Rattle.walk.specs.Slots.{Keeps}
+use Rattle.walk.specs.Places.{Keeps}
 
 abbrev nothing : Option Entry
 nothing = None

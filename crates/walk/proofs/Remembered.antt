@@ -15,7 +15,7 @@ use Rattle.walk.specs.declared.cache.Task.{Task}
 use Rattle.walk.specs.declared.cache.Task.the-variants.{Join, Restrict}
 use Rattle.walk.specs.declared.cache.Entry.{Entry}
 use Rattle.walk.specs.Ops.{joined, cofactor}
-use Rattle.walk.specs.Slots.{told}
+use Rattle.walk.specs.Places.{told}
 use Rattle.walk.specs.Entries.{RightTask, Right}
 use Rattle.walk.specs.Outcomes.{Walked}
 

@@ -4,7 +4,7 @@ ghost use mathlib.Core.Logic.{_⊎_};
 ghost use Rattle.std.specs.Options.{Cases};
 ghost use Rattle.std.specs.Orderings.{Decides};
 ghost use Rattle.walk.specs.declared.cache.Entry.{Entry};
-ghost use Rattle.walk.specs.Slots.{told, Keeps};
+ghost use Rattle.walk.specs.Places.{told, Keeps};
 use crate::ops::Op;
 use crate::ops::OpPartialEq;
 
@@ -49,19 +49,23 @@ fn same_task(a: Task, b: Task) -> bool
     a == b
 }
 
+// The kind of a restriction, after the operators' numbers.
+const RESTRICTION: u64 = 6;
+
 // Odd factors that spread the bits of a task.
 const FIRST: u64 = 0x9E37_79B9_7F4A_7C15;
 
 const SECOND: u64 = 0xC2B2_AE3D_27D4_EB4F;
 
-// The task's place: the top bits of a mixture that each part of the task stirs, so that near handles do not collide more than others.
+// The task's place: the top bits of a mixture of all its parts, so that near handles collide no more than others.
 fn place(task: Task) -> usize
     ensures { λ r. ⌜ r < 1024 ⌝ }
 {
     let key = match task {
         Task::Join(op, f, g) => f as u64 + 65_536 * (g as u64 + 65_536 * op as u64),
-        Task::Restrict(f, l, value) => f as u64
-            + 65_536 * (2 * l as u64 + value as u64 + 65_536 * 6),
+        Task::Restrict(f, l, value) => {
+            f as u64 + 65_536 * (2 * l as u64 + value as u64 + 65_536 * RESTRICTION)
+        }
     };
     let mixed = key.wrapping_mul(FIRST);
     ((mixed ^ (mixed >> 32)).wrapping_mul(SECOND) >> 54) as usize
@@ -78,7 +82,7 @@ impl DirectCache {
     }
 }
 
-pub impl Cache for DirectCache as DirectCacheCache {
+pub impl Cache for DirectCache as DirectMapped {
     ghost holds = { λ c e. Keeps (c .places) e };
 
     fn ask(&self, task: Task) -> Option<u16> {

@@ -7,7 +7,7 @@ mod ops;
 
 pub use cache::Cache;
 pub use cache::DirectCache;
-pub use cache::DirectCacheCache;
+pub use cache::DirectMapped;
 pub use cache::Entry;
 pub use cache::Task;
 pub use cofactors::restrict;

@@ -7,6 +7,60 @@ use Rattle.walk.proofs.Joining.{split-last, split-left, split-right, split-fir
 use Rattle.walk.proofs.Remembered.{joined-kept, right-kept, join-told}
 use Rattle.walk.proofs.joins.+apply.Needs as need
 
+pub returns : need.returns
+returns g t c =
+    let x = c .branches-f0 .ensures in
+    let y = c .branches-g0 .ensures in
+    let d = join-sides (c .pre .sound .formed) x y (c .split-level-l .ensures) (c .args .op) in
+    let lo = c .in-Continue-low .ensures tt in
+    let hi = c .in-Continue-high .ensures tt in
+    let made = c .in-Continue-h .ensures tt in
+    let same = joined-kept (lo .value .outcome .grows .extends) (c .args .op) _ _ (x .hi-issued) (y .hi-issued) in
+    let value = make-gives d (lo .value) same (hi .value) (c .split-level-l .ensures) (made .value) in
+    record {
+      size = made .size ∙ hi .size ∙ lo .size;
+      rest = made .rest ∙ hi .rest ∙ lo .rest;
+      sound = made .sound;
+      right = join-told (c .args .op) (c .args .f) (c .args .g) (c .pre .f) (c .pre .g) value (right-kept (made .value .outcome .grows .extends) (hi .right)) (c .tell .ensures);
+      value = value;
+    }
+
+pub returns-in-Break-h : need.returns-in-Break-h
+returns-in-Break-h g t c =
+    let x = c .branches-f0 .ensures in
+    let y = c .branches-g0 .ensures in
+    let d = join-sides (c .pre .sound .formed) x y (c .split-level-l .ensures) (c .args .op) in
+    let lo = c .in-Continue-low .ensures tt in
+    let hi = c .in-Continue-high .ensures tt in
+    let made = c .in-Break-h .ensures tt in
+    let same = joined-kept (lo .value .outcome .grows .extends) (c .args .op) _ _ (x .hi-issued) (y .hi-issued) in
+    let p = err-from-errBy (c .from-residual-in-Break-h .result) (c .from-residual-in-Break-h .ensures .1) in
+    record {
+      size = made .size ∙ hi .size ∙ lo .size;
+      rest = made .rest ∙ hi .rest ∙ lo .rest;
+      sound = made .sound;
+      right = right-kept (made .value .outcome .denies .grows .extends) (hi .right);
+      value = rw (p .1, p .2) (make-refused d (lo .value) same (hi .value) (hi .size ∙ lo .size) (made .value));
+    }
+
+pub returns-in-Break-high : need.returns-in-Break-high
+returns-in-Break-high g t c =
+    let x = c .branches-f0 .ensures in
+    let y = c .branches-g0 .ensures in
+    let d = join-sides (c .pre .sound .formed) x y (c .split-level-l .ensures) (c .args .op) in
+    let lo = c .in-Continue-low .ensures tt in
+    let hi = c .in-Break-high .ensures tt in
+    let same = joined-kept (lo .value .outcome .grows .extends) (c .args .op) _ _ (x .hi-issued) (y .hi-issued) in
+    let p = err-from-errBy (c .from-residual-in-Break-high .result) (c .from-residual-in-Break-high .ensures .1) in
+    record { size = hi .size ∙ lo .size; rest = hi .rest ∙ lo .rest; sound = hi .sound; right = hi .right; value = rw (p .1, p .2) (high-refused d (lo .value) same (lo .size) (hi .value)) }
+
+pub returns-in-Break-low : need.returns-in-Break-low
+returns-in-Break-low g t c =
+    let d = join-sides (c .pre .sound .formed) (c .branches-f0 .ensures) (c .branches-g0 .ensures) (c .split-level-l .ensures) (c .args .op) in
+    let lo = c .in-Break-low .ensures tt in
+    let p = err-from-errBy (c .from-residual .result) (c .from-residual .ensures .1) in
+    record { size = lo .size; rest = lo .rest; sound = lo .sound; right = lo .right; value = rw (p .1, p .2) (low-refused d (lo .value)) }
+
 pub returns-in-Some : need.returns-in-Some
 returns-in-Some g t c = record {
   size = refl;
@@ -46,13 +100,6 @@ apply-requires g t c κs within =
     let falls = falls-under (c .measured) (low-falls (c .pre .sound .formed) x y (c .split-level-l .ensures)) in
     (falls, (within .0, (within .1 .0, (within .1 .1, (c .pre .sound, (x .lo-issued, (y .lo-issued, c .pre .right)))))))
 
-pub returns-in-Break-low : need.returns-in-Break-low
-returns-in-Break-low g t c =
-    let d = join-sides (c .pre .sound .formed) (c .branches-f0 .ensures) (c .branches-g0 .ensures) (c .split-level-l .ensures) (c .args .op) in
-    let lo = c .in-Break-low .ensures tt in
-    let p = err-from-errBy (c .from-residual .result) (c .from-residual .ensures .1) in
-    record { size = lo .size; rest = lo .rest; sound = lo .sound; right = lo .right; value = rw (p .1, p .2) (low-refused d (lo .value)) }
-
 pub apply-requires-2 : need.apply-requires-2
 apply-requires-2 g t c κs within =
     let x = c .branches-f0 .ensures in
@@ -61,17 +108,6 @@ apply-requires-2 g t c κs within =
     let e = lo .value .outcome .grows .extends in
     let falls = falls-under (c .measured) (high-falls (c .pre .sound .formed) x y (c .split-level-l .ensures) e) in
     (falls, (within .0, (within .1 .0, (within .1 .1, (lo .sound, (issued-kept e _ (x .hi-issued), (issued-kept e _ (y .hi-issued), lo .right)))))))
-
-pub returns-in-Break-high : need.returns-in-Break-high
-returns-in-Break-high g t c =
-    let x = c .branches-f0 .ensures in
-    let y = c .branches-g0 .ensures in
-    let d = join-sides (c .pre .sound .formed) x y (c .split-level-l .ensures) (c .args .op) in
-    let lo = c .in-Continue-low .ensures tt in
-    let hi = c .in-Break-high .ensures tt in
-    let same = joined-kept (lo .value .outcome .grows .extends) (c .args .op) _ _ (x .hi-issued) (y .hi-issued) in
-    let p = err-from-errBy (c .from-residual-in-Break-high .result) (c .from-residual-in-Break-high .ensures .1) in
-    record { size = hi .size ∙ lo .size; rest = hi .rest ∙ lo .rest; sound = hi .sound; right = hi .right; value = rw (p .1, p .2) (high-refused d (lo .value) same (lo .size) (hi .value)) }
 
 pub make-requires : need.make-requires
 make-requires g t c κs =
@@ -87,40 +123,4 @@ make-requires g t c κs =
       low = low-stands d (lo .value) same (hi .value) (low-deeper (c .pre .sound .formed) x y (c .split-level-l .ensures));
       high = high-stands d (lo .value) same (hi .value) (high-deeper (c .pre .sound .formed) x y (c .split-level-l .ensures) e);
       first = split-first (c .pre .sound .formed) x y (c .split-level-l .ensures);
-    }
-
-pub returns-in-Break-h : need.returns-in-Break-h
-returns-in-Break-h g t c =
-    let x = c .branches-f0 .ensures in
-    let y = c .branches-g0 .ensures in
-    let d = join-sides (c .pre .sound .formed) x y (c .split-level-l .ensures) (c .args .op) in
-    let lo = c .in-Continue-low .ensures tt in
-    let hi = c .in-Continue-high .ensures tt in
-    let made = c .in-Break-h .ensures tt in
-    let same = joined-kept (lo .value .outcome .grows .extends) (c .args .op) _ _ (x .hi-issued) (y .hi-issued) in
-    let p = err-from-errBy (c .from-residual-in-Break-h .result) (c .from-residual-in-Break-h .ensures .1) in
-    record {
-      size = made .size ∙ hi .size ∙ lo .size;
-      rest = made .rest ∙ hi .rest ∙ lo .rest;
-      sound = made .sound;
-      right = right-kept (made .value .outcome .denies .grows .extends) (hi .right);
-      value = rw (p .1, p .2) (make-refused d (lo .value) same (hi .value) (hi .size ∙ lo .size) (made .value));
-    }
-
-pub returns : need.returns
-returns g t c =
-    let x = c .branches-f0 .ensures in
-    let y = c .branches-g0 .ensures in
-    let d = join-sides (c .pre .sound .formed) x y (c .split-level-l .ensures) (c .args .op) in
-    let lo = c .in-Continue-low .ensures tt in
-    let hi = c .in-Continue-high .ensures tt in
-    let made = c .in-Continue-h .ensures tt in
-    let same = joined-kept (lo .value .outcome .grows .extends) (c .args .op) _ _ (x .hi-issued) (y .hi-issued) in
-    let value = make-gives d (lo .value) same (hi .value) (c .split-level-l .ensures) (made .value) in
-    record {
-      size = made .size ∙ hi .size ∙ lo .size;
-      rest = made .rest ∙ hi .rest ∙ lo .rest;
-      sound = made .sound;
-      right = join-told (c .args .op) (c .args .f) (c .args .g) (c .pre .f) (c .pre .g) value (right-kept (made .value .outcome .grows .extends) (hi .right)) (c .tell .ensures);
-      value = value;
     }
