@@ -29,7 +29,7 @@ use Rattle.walk.specs.Ops.{answer, joined}
 use Rattle.walk.specs.Outcomes.{Walked}
 use Rattle.engine.specs.declared.faults.GraphFault.{GraphFault}
 use Rattle.engine.specs.declared.faults.GraphFault.the-variants.{Table}
-use Rattle.engine.specs.Works.{result, parts, of-option, inverse, combined}
+use Rattle.engine.specs.Works.{result, parts, of-option, complement, combined}
 use Rattle.engine.specs.Calls.{Made}
 use Rattle.engine.specs.Ends.{Ended}
 
@@ -56,8 +56,8 @@ option-function ns k =
 pub combined-function : (o : Op) (op : Operator) (f g : Fun) → ((x y : Bool) → answer o x y ≡ combine op x y) → joined o f g ≡ combined op f g
 combined-function o op f g e = fun-ext (λ s. e (f s) (g s))
 
-pub inverse-function : (ns : List Node) (f : Fun) → joined Xor f (meaning ns 1) ≡ inverse f
-inverse-function ns f =
+pub complement-function : (ns : List Node) (f : Fun) → joined Xor f (meaning ns 1) ≡ complement f
+complement-function ns f =
     ap (λ g. joined Xor f g) (meaning-constant ns 1 (omega arith))
     ∙ fun-ext (λ s. elim (f s) as (λ b. not (Bool·beq b true) ≡ not b) [ true ↦ refl | false ↦ refl ])
 

@@ -21,7 +21,7 @@ use Rattle.table.specs.declared.faults.Reason.the-variants.{NotIssued, Full}
 use Rattle.table.specs.Faults.{fault}
 use Rattle.engine.specs.declared.faults.GraphFault.{GraphFault}
 use Rattle.engine.specs.declared.faults.GraphFault.the-variants.{NoOption, Formula, Table}
-use Rattle.engine.specs.Works.{Work, result, parts, Working, of-option, inverse, combined, fixed}
+use Rattle.engine.specs.Works.{Work, result, parts, Working, of-option, complement, combined, fixed}
 
 -- granted: the nodes are those before and the working nodes, within N, and h means f
 pub record Given (N : ℕ) (w : Work) (f : Fun) (old : List Node) (h : ℕ) (new : List Node) : Type 0 where
@@ -44,34 +44,34 @@ pub record Made (N : ℕ) (w : Work) (f : Fun) (old : List Node) (r : Result ℕ
   pub outcome : Making N w f old r new
 
 -- refused with the fault e before anything was done
-pub record Turned (e : GraphFault) (old : List Node) (r : Result ℕ GraphFault) (new : List Node) : Type 0 where
+pub record Rejected (e : GraphFault) (old : List Node) (r : Result ℕ GraphFault) (new : List Node) : Type 0 where
   pub is : r ≡ Err e
   pub kept : new ≡ old
 
 -- a call under a condition C, refused with e where it does not hold
-abbrev pub Under : Type 0 → GraphFault → Type 0 → List Node → Result ℕ GraphFault → List Node → Type 0
-Under C e P old r new = (C × P) ⊎ ((¬ C) × Turned e old r new)
+abbrev pub Guarded : Type 0 → GraphFault → Type 0 → List Node → Result ℕ GraphFault → List Node → Type 0
+Guarded C e P old r new = (C × P) ⊎ ((¬ C) × Rejected e old r new)
 
 -- k is an option
 abbrev pub IsOption : ℕ → Type 0
 IsOption k = (1 ≤ k) × (k ≤ 12)
 
 pub record OptionOut (N k : ℕ) (old : List Node) (r : Result ℕ GraphFault) (new : List Node) : Type 0 where
-  pub outcome : Under (IsOption k) NoOption (Made N (result (of-option k)) (of-option k) old r new) old r new
+  pub outcome : Guarded (IsOption k) NoOption (Made N (result (of-option k)) (of-option k) old r new) old r new
 
 -- 9, with the size, for a handle that is not issued
 abbrev pub unissued : ℕ → GraphFault
 unissued N = Table (fault NotIssued N)
 
 pub record NotOut (N f : ℕ) (old : List Node) (r : Result ℕ GraphFault) (new : List Node) : Type 0 where
-  pub outcome : Under (Issued old f) (unissued N) (Made N (result (inverse (meaning old f))) (inverse (meaning old f)) old r new) old r new
+  pub outcome : Guarded (Issued old f) (unissued N) (Made N (result (complement (meaning old f))) (complement (meaning old f)) old r new) old r new
 
 pub record CombineOut (N : ℕ) (op : Operator) (f g : ℕ) (old : List Node) (r : Result ℕ GraphFault) (new : List Node) : Type 0 where
-  pub outcome : Under (Issued old f × Issued old g) (unissued N) (Made N (result (combined op (meaning old f) (meaning old g))) (combined op (meaning old f) (meaning old g)) old r new) old r new
+  pub outcome : Guarded (Issued old f × Issued old g) (unissued N) (Made N (result (combined op (meaning old f) (meaning old g))) (combined op (meaning old f) (meaning old g)) old r new) old r new
 
 -- 5 is tested before 9
 pub record RestrictOut (N f k : ℕ) (value : Bool) (old : List Node) (r : Result ℕ GraphFault) (new : List Node) : Type 0 where
-  pub outcome : Under (IsOption k) NoOption (Under (Issued old f) (unissued N) (Made N (result (fixed k value (meaning old f))) (fixed k value (meaning old f)) old r new) old r new) old r new
+  pub outcome : Guarded (IsOption k) NoOption (Guarded (Issued old f) (unissued N) (Made N (result (fixed k value (meaning old f))) (fixed k value (meaning old f)) old r new) old r new) old r new
 
 -- the text is a formula, and every part of it is made
 pub record Stated (N : ℕ) (text : List ℕ) (old : List Node) (r : Result ℕ GraphFault) (new : List Node) : Type 0 where
@@ -84,7 +84,7 @@ pub record Stated (N : ℕ) (text : List ℕ) (old : List Node) (r : Result ℕ 
 pub record Unstated (text : List ℕ) (old : List Node) (r : Result ℕ GraphFault) (new : List Node) : Type 0 where
   pub fault : FormulaFault
   pub refused : Refused text fault
-  pub turned : Turned (Formula fault) old r new
+  pub turned : Rejected (Formula fault) old r new
 
 pub record FormulaOut (N : ℕ) (text : List ℕ) (old : List Node) (r : Result ℕ GraphFault) (new : List Node) : Type 0 where
   pub outcome : Stated N text old r new ⊎ Unstated text old r new

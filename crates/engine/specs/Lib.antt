@@ -2,4 +2,5 @@ pub mod Faults
 pub mod Works
 pub mod Calls
 pub mod Ends
+pub mod Requests
 pub mod Theorems

@@ -12,8 +12,8 @@ abbrev pub of-option : ℕ → Fun
 of-option k s = s (sign-level k)
 
 -- no where f is yes
-abbrev pub inverse : Fun → Fun
-inverse f s = not (f s)
+abbrev pub complement : Fun → Fun
+complement f s = not (f s)
 
 -- two functions joined by an operator, answer by answer
 abbrev pub combined : Operator → Fun → Fun → Fun
