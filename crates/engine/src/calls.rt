@@ -24,7 +24,7 @@ use walk::apply;
 use walk::make;
 
 impl<T: NodeTable> Graph<T> {
-    // A graph over a table, whose nodes are taken out; it remembers nothing.
+    // A graph over a table, whose nodes are taken out.
     pub fn new(mut table: T) -> Self
         ensures nodes { λ r. ⌜ nodes (r .table) ≡ [] ⌝ }
         ensures size { λ r. ⌜ limit (r .table) ≡ limit table ⌝ }

@@ -1,5 +1,5 @@
 -- The first 4,098 bytes of an input decide what is printed. Assumes nothing.
-use mathlib.Core.Path.{_≡_, refl, ap, subst, _∙_}
+use mathlib.Core.Path.{_≡_, sym, refl, ap, subst, _∙_}
 use mathlib.Core.Bool.{Bool, true, false, cond}
 use mathlib.Core.List.{List, []}
 use mathlib.Core.Logic.{inr, ⊎-elim}
@@ -54,10 +54,20 @@ printed-long text out h e = record {
   printed = e;
 }
 
-pub decided : (input all out : List ℕ) → input ≡ take 4098 all → Report (unended input) out → Report (unended all) out
-decided input all out e r =
+-- an input of at most 4,098 bytes that another begins with
+short-decided : (input all out : List ℕ) → input ≡ take 4098 all → Report (unended input) out → Report (unended all) out
+short-decided input all out e r =
     ⊎-elim
     (λ long. let n : length input ≡ 4098 = ap length e ∙ omega (arith, length-take 4098 all) in
     printed-long (unended all) out (long-unended all (omega arith)) (long-printed (unended input) out (long-unended input (omega arith)) r))
     (λ short. subst (λ l. Report (unended l) out) (e ∙ take-all 4098 all short) r)
     (order 4098 (length all))
+
+pub decided : (input all out : List ℕ) → take 4098 input ≡ take 4098 all → Report (unended input) out → Report (unended all) out
+decided input all out e r =
+    ⊎-elim
+    (λ long. let n : length (take 4098 input) ≡ 4098 = omega (arith, length-take 4098 input) in
+    let m : length (take 4098 all) ≡ 4098 = ap length (sym e) ∙ n in
+    printed-long (unended all) out (long-unended all (omega (arith, length-take 4098 all, m))) (long-printed (unended input) out (long-unended input (omega arith)) r))
+    (λ short. short-decided input all out (sym (take-all 4098 input short) ∙ e) r)
+    (order 4098 (length input))

@@ -90,7 +90,7 @@ pub record Builds (N : ℕ) (text : List ℕ) (r : Result ℕ GraphFault) (n : �
   pub call : FormulaOut N text [] r new
   pub count : n ≡ length new
 
--- all that is printed for a text, by what the graph call answers on a new graph of size 8,128
+-- all that is printed for a text, by what the graph call may answer on a new graph of size 8,128
 pub record Report (text out : List ℕ) : Type 0 where
   pub r : Result ℕ GraphFault
   pub new : List Node

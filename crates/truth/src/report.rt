@@ -143,9 +143,9 @@ fn report(heap: Global, text: &[u8]) -> Result<Vec<u8>, AllocError>
     }
 }
 
-// All that is printed for an input, from its first 4,098 bytes; an error is a want of memory.
+// All that is printed for any input with the same first 4,098 bytes; an error is a want of memory.
 pub fn answer(heap: Global, input: &[u8]) -> Result<Vec<u8>, AllocError>
-    ensures { λ r. ⌜ made r (λ out. (all : List ℕ) → now (input .entry) ≡ take 4098 all → Report (unended all) (vec-items out)) ⌝ }
+    ensures { λ r. ⌜ made r (λ out. (all : List ℕ) → take 4098 (now (input .entry)) ≡ take 4098 all → Report (unended all) (vec-items out)) ⌝ }
 {
     report(heap, without_line_feed(input))
 }

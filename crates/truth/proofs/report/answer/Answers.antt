@@ -10,6 +10,6 @@ use Rattle.truth.proofs.report.answer.Needs as need
 
 pub returns : need.returns
 returns c =
-    made-weaker (c .report .result) (λ out. Report (c .without-line-feed .result .now) (vec-items out)) (λ out. (all : List ℕ) → c .args .input .now ≡ take 4098 all → Report (unended all) (vec-items out))
+    made-weaker (c .report .result) (λ out. Report (c .without-line-feed .result .now) (vec-items out)) (λ out. (all : List ℕ) → take 4098 (c .args .input .now) ≡ take 4098 all → Report (unended all) (vec-items out))
     (λ out r all e. decided (c .args .input .now) all (vec-items out) e (subst (λ t. Report t (vec-items out)) (c .without-line-feed .ensures) r))
     (c .report .ensures)
