@@ -1,0 +1,11 @@
+pub mod Primes
+pub mod Essentials
+pub mod Settings
+pub mod Conditions
+pub mod Sets
+pub mod Tidying
+pub mod Masking
+pub mod Handles
+pub mod Halves
+pub mod Walked
+pub mod Examples

@@ -1,0 +1,4 @@
+pub mod Implicants
+pub mod Variables
+pub mod Theorems
+pub mod Examples
