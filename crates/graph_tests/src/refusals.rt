@@ -1,5 +1,6 @@
 // Every refusal of a graph call, and that it changes nothing.
 use crate::examples::told;
+use diagram::NodePartialEq;
 use engine::Graph;
 use packed::PackedNodeTable;
 use packed::PackedTable;
@@ -71,7 +72,7 @@ fn packed_len(size: u16) -> usize {
 
 // At every size up to what a formula needs, it is refused, and leaves the bytes as if it had not been tried.
 fn refused_below(rt: &LibcRuntime, text: &[u8], needs: u16) -> Result<(), Fail> {
-    for size in 1..needs {
+    for size in 0..needs {
         let mut tried = vec![in rt.alloc(); 7u8; packed_len(size)]?;
         let mut plain = vec![in rt.alloc(); 7u8; packed_len(size)]?;
         check_eq(after(PackedTable::new(tried.as_mut_slice()), text), (14, 0))?;
@@ -80,6 +81,25 @@ fn refused_below(rt: &LibcRuntime, text: &[u8], needs: u16) -> Result<(), Fail> 
     }
     let mut enough = vec![in rt.alloc(); 7u8; packed_len(needs)]?;
     check_eq(after(PackedTable::new(enough.as_mut_slice()), text).0, 0)
+}
+
+// The same over node records.
+fn refused_below_plain(rt: &LibcRuntime, text: &[u8], needs: u16) -> Result<(), Fail> {
+    for size in 0..needs {
+        let mut tried = vec![in rt.alloc(); BLANK; size as usize]?;
+        let mut plain = vec![in rt.alloc(); BLANK; size as usize]?;
+        check_eq(after(PlainTable::new(tried.as_mut_slice()), text), (14, 0))?;
+        check_eq(after(PlainTable::new(plain.as_mut_slice()), b"0"), (0, 0))?;
+        check(tried.as_slice() == plain.as_slice())?;
+    }
+    let mut enough = vec![in rt.alloc(); BLANK; needs as usize]?;
+    check_eq(after(PlainTable::new(enough.as_mut_slice()), text).0, 0)
+}
+
+#[test]
+fn plain_below_what_it_needs(rt: LibcRuntime) -> Result<(), Fail> {
+    refused_below_plain(&rt, b"a&b|!a&c", 7)?;
+    refused_below_plain(&rt, b"(a|b)&(c|d)>e", 13)
 }
 
 #[test]

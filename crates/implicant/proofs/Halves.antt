@@ -39,15 +39,15 @@ iff-trans p q = (λ a. q .1 (p .0 a), λ c. p .1 (q .0 c))
 
 -- one step: the sets of the "and" and of both halves make the set of the whole
 pub primes-step : (n k : ℕ) (c : Condition (suc n)) (p p0 p1 : Fun) → ArePrimes n (k + 1) (both n c) p → ArePrimes n (k + 1) (low n c) p0 → ArePrimes n (k + 1) (high n c) p1 → ArePrimes (suc n) k c (primes-by-halves k p p0 p1)
-primes-step n k c p p0 p1 a a0 a1 s = go (s (2 * k + 1)) (s (2 * k + 2))
+primes-step n k c p p0 p1 a x0 x1 s = go (s (2 * k + 1)) (s (2 * k + 2))
   where
     rest : Words n
     rest = product-from n (k + 1) s
 
     go : (x y : Bool) → (cond x (cond y (p1 s && not (p s)) (p0 s && not (p s))) (p s) ≡ true) ↔ Prime (suc n) c (word x y, rest)
     go false y = iff-trans (a s) (prime-recursion n c rest .0)
-    go true false = iff-trans (and-not-true (p0 s) (p s) _ _ (a0 s) (a s)) (prime-recursion n c rest .1)
-    go true true = iff-trans (and-not-true (p1 s) (p s) _ _ (a1 s) (a s)) (prime-recursion n c rest .2)
+    go true false = iff-trans (and-not-true (p0 s) (p s) _ _ (x0 s) (a s)) (prime-recursion n c rest .1)
+    go true true = iff-trans (and-not-true (p1 s) (p s) _ _ (x1 s) (a s)) (prime-recursion n c rest .2)
 
 same-bool : (a b : Bool) → (a ≡ true → b ≡ true) → (b ≡ true → a ≡ true) → a ≡ b
 same-bool true b p q = sym (p refl)

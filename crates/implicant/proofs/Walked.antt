@@ -40,11 +40,11 @@ module _ (n k : ℕ) {f lo hi : Fun} (d : Sides (2 * k + 2) f lo hi) where
   -- the sets of the "and" and of both sides make the set of f
   pub set-step : (p p0 p1 : Fun) → ArePrimes n (k + 1) (condition n (k + 1) (and-of lo hi)) p → ArePrimes n (k + 1) (condition n (k + 1) lo) p0 → ArePrimes n (k + 1) (condition n (k + 1) hi) p1
       → ArePrimes (suc n) k (condition (suc n) k f) (primes-by-halves k p p0 p1)
-  set-step p p0 p1 a a0 a1 =
+  set-step p p0 p1 a x0 x1 =
       primes-step n k C p p0 p1
       (primes-at n (k + 1) (condition n (k + 1) (and-of lo hi)) (both n C) p p (sym (both-is k d n)) refl a)
-      (primes-at n (k + 1) (condition n (k + 1) lo) (low n C) p0 p0 (sym (low-is k d n)) refl a0)
-      (primes-at n (k + 1) (condition n (k + 1) hi) (high n C) p1 p1 (sym (high-is k d n)) refl a1)
+      (primes-at n (k + 1) (condition n (k + 1) lo) (low n C) p0 p0 (sym (low-is k d n)) refl x0)
+      (primes-at n (k + 1) (condition n (k + 1) hi) (high n C) p1 p1 (sym (high-is k d n)) refl x1)
 
   pub in-low : (u : Fun) → PrimeRestrictions n (k + 1) (condition n (k + 1) lo) u → PrimeRestrictions (suc n) k (condition (suc n) k f) u
   in-low u x = low-in Restriction n k C u (subst (λ (c : Condition n). PrimeRestrictions n (k + 1) c u) (sym (low-is k d n)) x)
