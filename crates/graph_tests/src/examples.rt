@@ -84,3 +84,18 @@ fn restrictions() -> Result<(), Fail> {
     cofactors(PlainTable::new(&mut [BLANK; 5]))?;
     cofactors(PackedTable::new(&mut [0; 600]))
 }
+
+// The example of the README.
+fn lid_and_rim<T: NodeTable + Drop>(table: T) -> Result<u16, GraphFault> {
+    let mut graph = Graph::new(table);
+    let a = graph.option(1)?;
+    let b = graph.option(2)?;
+    graph.and(a, b)
+}
+
+#[test]
+fn readme() -> Result<(), Fail> {
+    let mut bytes = [0u8; 4096];
+    check_eq(told(lid_and_rim(PackedTable::new(&mut bytes))), (0, 4))?;
+    check_eq(told(lid_and_rim(PackedTable::new(&mut bytes[0..528]))), (14, 0))
+}
