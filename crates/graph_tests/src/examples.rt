@@ -97,5 +97,8 @@ fn lid_and_rim<T: NodeTable + Drop>(table: T) -> Result<u16, GraphFault> {
 fn readme() -> Result<(), Fail> {
     let mut bytes = [0u8; 4096];
     check_eq(told(lid_and_rim(PackedTable::new(&mut bytes))), (0, 4))?;
-    check_eq(told(lid_and_rim(PackedTable::new(&mut bytes[0..528]))), (14, 0))
+    check_eq(
+        told(lid_and_rim(PackedTable::new(&mut bytes[0..528]))),
+        (14, 0),
+    )
 }
