@@ -1,5 +1,5 @@
 pub mod Ops
 pub mod Shortcuts
 pub mod Places
-pub mod Entries
 pub mod Outcomes
+pub mod Entries

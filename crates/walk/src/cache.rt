@@ -8,11 +8,13 @@ ghost use Rattle.walk.specs.Places.{told, Keeps};
 use crate::ops::Op;
 use crate::ops::OpPartialEq;
 
-// What a walk works out: a joining of two handles by an operator, or a handle's cofactor at a level and a value.
+// What a walk works out: a joining of two handles by an operator, a handle's cofactor at a level and a value,
+// or the set of a handle's primes over the options after the first few.
 #[derive(Clone, Copy, PartialEq, Eq)]
 pub enum Task {
     Join(Op, u16, u16),
     Restrict(u16, u8, bool),
+    Primes(u16, u8),
 }
 
 // A task with the handle that answers it.
@@ -49,8 +51,10 @@ fn same_task(a: Task, b: Task) -> bool
     a == b
 }
 
-// The kind of a restriction, after the operators' numbers.
+// The kinds of a restriction and of primes, after the operators' numbers.
 const RESTRICTION: u64 = 6;
+
+const PRIMES: u64 = 7;
 
 // Odd factors that spread the bits of a task.
 const FIRST: u64 = 0x9E37_79B9_7F4A_7C15;
@@ -66,6 +70,7 @@ fn place(task: Task) -> usize
         Task::Restrict(f, l, value) => {
             f as u64 + 65_536 * (2 * l as u64 + value as u64 + 65_536 * RESTRICTION)
         }
+        Task::Primes(f, gone) => f as u64 + 65_536 * (gone as u64 + 65_536 * PRIMES),
     };
     let mixed = key.wrapping_mul(FIRST);
     ((mixed ^ (mixed >> 32)).wrapping_mul(SECOND) >> 54) as usize

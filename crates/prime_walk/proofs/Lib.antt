@@ -1,0 +1,3 @@
+mod Signs
+mod United
+mod Priming
