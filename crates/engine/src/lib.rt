@@ -1,4 +1,5 @@
 // Graphs of conditions: reduced decision diagrams over any node table, with exact node accounting.
+#![tactic(auto)]
 mod calls;
 mod card_faults;
 mod cards;

@@ -1,4 +1,5 @@
 // Examples of graph calls over both tables; nothing but tests.
+#![tactic(auto)]
 #[cfg(test)]
 mod examples;
 #[cfg(test)]

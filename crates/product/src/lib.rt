@@ -1,4 +1,6 @@
 // A product of literals over the twelve options: a line of a card, kept as two masks.
+#![tactic(auto)]
+
 ghost use Rattle.std.specs.Prelude.{◌≡◌, ◌^◌, ◌<◌, ◌≤◌, length, count_ones};
 ghost use Rattle.product.specs.declared.masks.Product.{Product};
 ghost use Rattle.product.specs.Outcome.{Written};

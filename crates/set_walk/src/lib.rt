@@ -1,4 +1,5 @@
 // Walks over product sets that enter no node: inner code, whose functions have `requires`; only the engine above calls them.
+#![tactic(auto)]
 mod handing;
 mod receiver;
 mod sets;

@@ -1,4 +1,5 @@
 // Node tables: the nodes of a decision diagram, each held once, in memory that the caller lends.
+#![tactic(auto)]
 mod decided;
 mod faults;
 mod fitting;

@@ -1,4 +1,5 @@
 // Examples of the node tables; nothing but tests.
+#![tactic(auto)]
 #[cfg(test)]
 mod layout;
 #[cfg(test)]

@@ -1,4 +1,5 @@
 // Walks over a decision diagram: inner code, whose functions have `requires`; only the engine above calls them.
+#![tactic(auto)]
 mod cache;
 mod cofactors;
 mod handles;

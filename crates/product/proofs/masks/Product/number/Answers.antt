@@ -7,8 +7,8 @@ use Rattle.product.proofs.masks.Product.number.Goals as goal
 sum : (c : goal.After-weight-2) → c.weight.result + c.weight-2.result ≡ number_of (words_of c.args.self)
 sum c = omega (arith, c.weight.ensures, c.weight-2.ensures, number_by_weights c.args.self)
 
-pub overflow-add-result : goal.overflow-add-result
-overflow-add-result c = omega (arith, sum c, number_few (words_of c.args.self))
+pub overflow_add-result : goal.overflow_add-result
+overflow_add-result c = omega (arith, sum c, number_few (words_of c.args.self))
 
 pub returns : goal.returns
 returns c = record {
