@@ -7,7 +7,6 @@ use base.Stored.{Coded-set, coded_list}
 use Rattle.diagram.specs.declared.Node.{Node}
 use Rattle.diagram.specs.contracts.Node.{the_row}
 use Rattle.diagram.specs.Nodes.{Fit, WellFormed}
-use denote.Struct.Props.{three_prop}
 use Rattle.table.specs.Plain.{Cleared, plain_nodes}
 
 run_set : (a b : List Node) → IsProp (a ≡ b)
@@ -26,7 +25,7 @@ fit_prop ns n x y = λ i. record {
 
 pub formed_prop : (ns : List Node) → IsProp (WellFormed ns)
 formed_prop [] = λ x y i. tt
-formed_prop (n ∷ ns) = three_prop (fit_prop ns n) (Π_prop λ h. Π_prop λ a. ⊥_prop) (formed_prop ns)
+formed_prop (n ∷ ns) = λ x y i. (fit_prop ns n x.0 y.0 i, (Π_prop λ h. Π_prop λ a. ⊥_prop) x.1 y.1 i, formed_prop ns x.2 y.2 i)
 
 pub formed_out : (count : ℕ) (run : List Node) → ∥ WellFormed (plain_nodes count run) ∥₁ → WellFormed (plain_nodes count run)
 formed_out count run p = ∥∥₁_elim p (formed_prop (plain_nodes count run)) (λ w. w)

@@ -22,11 +22,11 @@ impl From<TableFault> for PairFault {
 
 // Inserts `a` and then `b`, or neither; the handle is that of `b`.
 pub fn insert_pair<T: NodeTable>(table: &mut T, a: Node, b: Node) -> Result<u16, PairFault>
-    ensures paired { Paired (limit table.old) (nodes table.old) a b result (nodes table.new) }
-    ensures size { limit table.new ≡ limit table.old }
-    ensures rest { rest table.new ≡ rest table.old }
-    ensures memory { memory table.new ≡ content (limit table.new) (nodes table.new) (rest table.new) }
-    ensures refused { OnErr result (memory table.new ≡ memory table.old) }
+    ensures paired { Paired (T.limit table.old) (T.nodes table.old) a b result (T.nodes table.new) }
+    ensures size { T.limit table.new ≡ T.limit table.old }
+    ensures rest { T.rest table.new ≡ T.rest table.old }
+    ensures memory { T.memory table.new ≡ T.content (T.limit table.new) (T.nodes table.new) (T.rest table.new) }
+    ensures refused { OnErr result (T.memory table.new ≡ T.memory table.old) }
 {
     let held = table.len();
     table.insert(a)?;

@@ -9,26 +9,26 @@ one n p = ap length (decimal_digit n p)
 more : (n : ℕ) → 10 ≤ n → n < 2 ^ 32 → length (decimal n) ≡ length (decimal (n / 10)) + 1
 more n p q = ap length (decimal_step n p (omega arith)) ∙ length-append (decimal (n / 10)) ((48 + n % 10) ∷ [])
 
-pub put-byte-requires : goal.put-byte-requires
-put-byte-requires t c = omega (arith, one c.args.n c.if-n-lt10.true, c.requires)
+pub put_byte-requires : goal.put_byte-requires
+put_byte-requires t c = omega (arith, one c.args.n c.if-n-lt10.true, c.requires)
 
 pub returns-then-n-lt10 : goal.returns-then-n-lt10
-returns-then-n-lt10 t c = put_as _ _ _ _ _ _ (sym (decimal_digit c.args.n c.if-n-lt10.true)) c.put-byte.ensures
+returns-then-n-lt10 t c = put_as _ _ _ _ _ _ (sym (decimal_digit c.args.n c.if-n-lt10.true)) c.put_byte.ensures
 
-pub put-decimal-p-requires : goal.put-decimal-p-requires
-put-decimal-p-requires t c =
+pub put_decimal-p-requires : goal.put_decimal-p-requires
+put_decimal-p-requires t c =
     let n = c.args.n in
     let small : n < 2 ^ 32 = omega arith in
     (omega (arith, c.decreases, c.if-n-lt10.false), omega (arith, more n c.if-n-lt10.false small, c.requires))
 
-pub put-byte-requires-2 : goal.put-byte-requires-2
-put-byte-requires-2 t c =
+pub put_byte-requires-2 : goal.put_byte-requires-2
+put_byte-requires-2 t c =
     let n = c.args.n in
     let small : n < 2 ^ 32 = omega arith in
-    omega (arith, more n c.if-n-lt10.false small, c.requires, c.put-decimal-p.ensures.value, c.put-decimal-p.auto.out)
+    omega (arith, more n c.if-n-lt10.false small, c.requires, c.put_decimal-p.ensures.value, c.put_decimal-p.auto.out)
 
 pub returns : goal.returns
 returns t c =
     let n = c.args.n in
     let small : n < 2 ^ 32 = omega arith in
-    put_as _ _ _ _ _ _ (sym (decimal_step n c.if-n-lt10.false (omega arith))) (put_two _ _ _ _ _ _ _ _ c.put-decimal-p.ensures c.put-byte-2.ensures)
+    put_as _ _ _ _ _ _ (sym (decimal_step n c.if-n-lt10.false (omega arith))) (put_two _ _ _ _ _ _ _ _ c.put_decimal-p.ensures c.put_byte-2.ensures)

@@ -4,4 +4,4 @@ use Rattle.formula.specs.declared.steps.Step.TheVariants.{Negate}
 use Rattle.formula.proofs.reader.push_negations.Given as goal
 
 abbrev pub invariant-loop-i : goal.invariant-loop-i
-invariant-loop-i l = (l.out.len ≡ l.initial.out.len + l.-i) × (written l.out ≡ written l.initial.out ++ replicate l.-i Negate)
+invariant-loop-i l = (l.out.len ≡ l.initial.out.len + l._i) × (written l.out ≡ written l.initial.out ++ replicate l._i Negate)

@@ -5,9 +5,9 @@ use Rattle.formula.proofs.Derive.{weaker}
 use Rattle.formula.proofs.stored.Formula.new.Goals as goal
 
 -- the text `0`
-pub invariant-of-result : goal.invariant-of-result
+pub invariant_of-result : goal.invariant_of-result
 unfolding postfix
-invariant-of-result c = (search rules, (∣ (48 ∷ [], leaf (Constant false), weaker 1 6 (omega arith) (single refl), refl) ∣₁, tt))
+invariant_of-result c = record { few = search rules; spelled = ∣ (48 ∷ [], leaf (Constant false), weaker 1 6 (omega arith) (single refl), refl) ∣₁ }
 
 pub returns : goal.returns
 unfolding postfix

@@ -3,13 +3,13 @@ use Rattle.table.specs.Plain.{plain_size}
 use Rattle.table.proofs.Runs.{size_cut, rest_cut, zeros_cut, cleared_cut, cleared_full}
 use Rattle.table.proofs.plain.PlainTable.new.Goals as goal
 
-pub invariant-of-result : goal.invariant-of-result
-invariant-of-result c =
+pub invariant_of-result : goal.invariant_of-result
+invariant_of-result c =
     let run = c.args.run.now in
     let s = c.size-size.result in
     let room : s ≤ plain_size run = omega arith in
     let old = cleared_full run s c.size-size.ensures in
-    (omega arith, (∣ tt ∣₁, (∣ cleared_cut run 0 s c.clear.new.self.run.now room (omega arith) c.clear.ensures old ∣₁, tt)))
+    record { room = omega arith; formed = ∣ tt ∣₁; cleared = ∣ cleared_cut run 0 s c.clear.new.self.run.now room (omega arith) c.clear.ensures old ∣₁ }
 
 pub returns : goal.returns
 returns c =

@@ -3,22 +3,13 @@ use Rattle.table.proofs.Props.{formed_out, cleared_out}
 use Rattle.table.proofs.Runs.{held_length, memory_held, size_cut, rest_cut, cleared_cut, formed_cut, nodes_cut, oldest_all}
 use Rattle.table.proofs.plain.PlainTableNodeTable.truncate.Goals as goal
 
-pub invariant-of-self : goal.invariant-of-self
-invariant-of-self c =
+pub invariant_of-self : goal.invariant_of-self
+invariant_of-self c =
     let t = c.args.self.now in
     let run = t.records.run.now in
     let run' = c.clear.new.self.run.now in
     let l : c.args.count ≤ t.held = omega arith in
-    let s = size_cut run c.args.count t.held run' t.room l c.clear.ensures in (
-      omega arith,
-      (
-        ∣ formed_cut run c.args.count t.held run' t.room l c.clear.ensures (formed_out t.held run t.formed) ∣₁,
-        (
-          ∣ cleared_cut run c.args.count t.held run' t.room l c.clear.ensures (cleared_out t.held run t.cleared) ∣₁,
-          tt,
-        ),
-      ),
-    )
+    let s = size_cut run c.args.count t.held run' t.room l c.clear.ensures in record { room = omega arith; formed = ∣ formed_cut run c.args.count t.held run' t.room l c.clear.ensures (formed_out t.held run t.formed) ∣₁; cleared = ∣ cleared_cut run c.args.count t.held run' t.room l c.clear.ensures (cleared_out t.held run t.cleared) ∣₁ }
 
 pub returns-then-n-at : goal.returns-then-n-at
 returns-then-n-at c =
