@@ -17,15 +17,15 @@ pub fn restrict<T: NodeTable, C: Cache>(
     l: u8,
     value: bool,
 ) -> Result<u16, TableFault>
-    requires sound { Sound (limit table.old) (nodes table.old) }
-    requires f { Issued (nodes table.old) f }
+    requires sound { Sound (T.limit table.old) (T.nodes table.old) }
+    requires f { Issued (T.nodes table.old) f }
     requires last { l ≤ 24 }
-    requires right { Right (nodes table.old) (holds cache.old) }
-    ensures size { limit table.new ≡ limit table.old }
-    ensures rest { rest table.new ≡ rest table.old }
-    ensures sound { Sound (limit table.new) (nodes table.new) }
-    ensures right { Right (nodes table.new) (holds cache.new) }
-    ensures value { Walked (limit table.old) (nodes table.old) (level_of (nodes table.old) f) (cofactor l value (meaning (nodes table.old) f)) result (nodes table.new) }
+    requires right { Right (T.nodes table.old) (C.holds cache.old) }
+    ensures size { T.limit table.new ≡ T.limit table.old }
+    ensures rest { T.rest table.new ≡ T.rest table.old }
+    ensures sound { Sound (T.limit table.new) (T.nodes table.new) }
+    ensures right { Right (T.nodes table.new) (C.holds cache.new) }
+    ensures value { Walked (T.limit table.old) (T.nodes table.old) (level_of (T.nodes table.old) f) (cofactor l value (meaning (T.nodes table.old) f)) result (T.nodes table.new) }
 {
     let own = level(table, f);
     if own > l {

@@ -12,9 +12,9 @@ use table::{NodeTable, TableFault};
 
 // The level to split f and g by: the first of theirs.
 fn split_level<T: NodeTable>(table: &T, f: u16, g: u16) -> u8
-    requires f { Issued (nodes table.now) f }
-    requires g { Issued (nodes table.now) g }
-    ensures { result ≡ min (level_of (nodes table.now) f) (level_of (nodes table.now) g) }
+    requires f { Issued (T.nodes table.now) f }
+    requires g { Issued (T.nodes table.now) g }
+    ensures { result ≡ min (level_of (T.nodes table.now) f) (level_of (T.nodes table.now) g) }
 {
     level(table, f).min(level(table, g))
 }
@@ -27,15 +27,15 @@ pub fn apply<T: NodeTable, C: Cache>(
     f: u16,
     g: u16,
 ) -> Result<u16, TableFault>
-    requires sound { Sound (limit table.old) (nodes table.old) }
-    requires f { Issued (nodes table.old) f }
-    requires g { Issued (nodes table.old) g }
-    requires right { Right (nodes table.old) (holds cache.old) }
-    ensures size { limit table.new ≡ limit table.old }
-    ensures rest { rest table.new ≡ rest table.old }
-    ensures sound { Sound (limit table.new) (nodes table.new) }
-    ensures right { Right (nodes table.new) (holds cache.new) }
-    ensures value { Walked (limit table.old) (nodes table.old) (min (level_of (nodes table.old) f) (level_of (nodes table.old) g)) (joined op (meaning (nodes table.old) f) (meaning (nodes table.old) g)) result (nodes table.new) }
+    requires sound { Sound (T.limit table.old) (T.nodes table.old) }
+    requires f { Issued (T.nodes table.old) f }
+    requires g { Issued (T.nodes table.old) g }
+    requires right { Right (T.nodes table.old) (C.holds cache.old) }
+    ensures size { T.limit table.new ≡ T.limit table.old }
+    ensures rest { T.rest table.new ≡ T.rest table.old }
+    ensures sound { Sound (T.limit table.new) (T.nodes table.new) }
+    ensures right { Right (T.nodes table.new) (C.holds cache.new) }
+    ensures value { Walked (T.limit table.old) (T.nodes table.old) (min (level_of (T.nodes table.old) f) (level_of (T.nodes table.old) g)) (joined op (meaning (T.nodes table.old) f) (meaning (T.nodes table.old) g)) result (T.nodes table.new) }
 {
     if let Some(h) = shortcut(op, f, g) {
         return Ok(h);

@@ -4,12 +4,12 @@ use Rattle.std.proofs.lemmas.List.{take_all}
 use Rattle.card_text.specs.Card.{Plain}
 use Rattle.card_text.proofs.fields.keeps_rule.Goals as goal
 
-pub returns-then-not-is-plain : goal.returns-then-not-is-plain
-returns-then-not-is-plain c w = c.if-not-is-plain.ensures (All-get_or Plain c.args.bytes.now c.loop-b.b-index 0 (omega arith) w.plain)
+pub returns-then-not-is_plain : goal.returns-then-not-is_plain
+returns-then-not-is_plain c w = c.if-not-is_plain.ensures (All-get_or Plain c.args.bytes.now c.loop-b.b-index 0 (omega arith) w.plain)
 
 pub loop-b-preserved : goal.loop-b-preserved
 loop-b-preserved c =
-    All-more Plain c.args.bytes.now c.loop-b.b-index 0 (omega arith) c.loop-b.invariant c.if-not-is-plain.ensures
+    All-more Plain c.args.bytes.now c.loop-b.b-index 0 (omega arith) c.loop-b.invariant c.if-not-is_plain.ensures
 
 pub returns : goal.returns
 returns c =

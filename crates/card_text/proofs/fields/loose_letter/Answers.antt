@@ -6,7 +6,7 @@ use Rattle.card_text.proofs.fields.loose_letter.Goals as goal
 
 pub loop-i-preserved : goal.loop-i-preserved
 loop-i-preserved c =
-    All-more (λ (b : ℕ). Loose c.args.options b → ⊥) c.args.formula.now c.loop-i.i 0 (omega arith) c.loop-i.invariant c.if-is-loose.ensures
+    All-more (λ (b : ℕ). Loose c.args.options b → ⊥) c.args.formula.now c.loop-i.i 0 (omega arith) c.loop-i.invariant c.if-is_loose.ensures
 
 pub returns : goal.returns
 returns c =

@@ -5,17 +5,17 @@ use Rattle.card_text.proofs.Walk.{arrived_more, refused, ended, no_end}
 use Rattle.card_text.proofs.Tails.{card_tail}
 use Rattle.card_text.proofs.reader.read_card.Goals as goal
 
-pub returns-in-err-at : goal.returns-in-err-at
-returns-in-err-at c =
-    let p = err_from_is_err_and c.from-residual.result c.from-residual.ensures.1 in
+pub returns-in_err-at : goal.returns-in_err-at
+returns-in_err-at c =
+    let p = err_from_is_err_and c.from_residual.result c.from_residual.ensures.1 in
     let now = c.loop-at.invariant in
-    rw (p.1, p.2) (refused c.args.text.now c.loop-at.at c.loop-at.seen now.0 now.1 (omega arith) _ (omega arith) c.in-err-at.ensures)
+    rw (p.1, p.2) (refused c.args.text.now c.loop-at.at c.loop-at.seen now.0 now.1 (omega arith) _ (omega arith) c.in_err-at.ensures)
 
 pub loop-at-preserved : goal.loop-at-preserved
 loop-at-preserved c =
     let now = c.loop-at.invariant in
-    let s = c.in-ok-at.ensures in
-    (s.row ∷ now.0, arrived_more c.args.text.now c.loop-at.at c.loop-at.seen now.0 now.1 c.in-ok-at.at c.advance.new.seen s)
+    let s = c.in_ok-at.ensures in
+    (s.row ∷ now.0, arrived_more c.args.text.now c.loop-at.at c.loop-at.seen now.0 now.1 c.in_ok-at.at c.advance.new.seen s)
 
 pub returns-then-ne : goal.returns-then-ne
 returns-then-ne c =

@@ -12,25 +12,25 @@ two : (c : After-node-x) → 2 ≤ c.loop-h.h
 two c = let t = c.loop-h-test.true in elim c.loop-h.invariant.real [ inl e ↦ absurd (omega arith) | inr h ↦ h ]
 
 found : (c : After-node-x) → c.node-x.result ≡ slot c.args.self.now.buf.now (c.loop-h.h - 2)
-found c = c.node-x.ensures ∙ ap (slot c.args.self.now.buf.now) c.place-of-k.ensures
+found c = c.node-x.ensures ∙ ap (slot c.args.self.now.buf.now) c.place_of-k.ensures
 
 pub loop-h-smaller : goal.loop-h-smaller
 loop-h-smaller c =
     let bs = c.args.self.now.buf.now in
     next_less c.args.held bs c.requires.laid c.args.node c.loop-h.h c.link-h.result c.loop-h.invariant (two (goal.at.loop-h-smaller c).After-node-x)
-    (c.link-h.ensures ∙ ap (λ (x : ℕ). get16 bs (slot_start x + 6)) c.place-of-k.ensures)
+    (c.link-h.ensures ∙ ap (λ (x : ℕ). get16 bs (slot_start x + 6)) c.place_of-k.ensures)
 
 pub loop-h-preserved : goal.loop-h-preserved
 loop-h-preserved c =
     let bs = c.args.self.now.buf.now in
     passed_next c.args.held bs c.requires.laid c.args.node c.loop-h.h c.link-h.result c.loop-h.invariant (two (goal.at.loop-h-preserved c).After-node-x)
-    (λ e. false≢true (c.if-same-node.ensures.1 (found (goal.at.loop-h-preserved c).After-node-x ∙ e)))
-    (c.link-h.ensures ∙ ap (λ (x : ℕ). get16 bs (slot_start x + 6)) c.place-of-k.ensures)
+    (λ e. false≢true (c.if-same_node.ensures.1 (found (goal.at.loop-h-preserved c).After-node-x ∙ e)))
+    (c.link-h.ensures ∙ ap (λ (x : ℕ). get16 bs (slot_start x + 6)) c.place_of-k.ensures)
 
-pub returns-then-same-node : goal.returns-then-same-node
-returns-then-same-node c =
-    let p = (goal.at.returns-then-same-node c).After-node-x in
-    at_slot c.args.held c.args.self.now.buf.now c.loop-h.h c.args.node (two p) c.loop-h.invariant.issued (sym (found p) ∙ c.if-same-node.ensures.0 refl)
+pub returns-then-same_node : goal.returns-then-same_node
+returns-then-same_node c =
+    let p = (goal.at.returns-then-same_node c).After-node-x in
+    at_slot c.args.held c.args.self.now.buf.now c.loop-h.h c.args.node (two p) c.loop-h.invariant.issued (sym (found p) ∙ c.if-same_node.ensures.0 refl)
 
 pub returns : goal.returns
 returns c =

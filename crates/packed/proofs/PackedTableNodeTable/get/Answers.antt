@@ -21,4 +21,4 @@ pub returns : goal.returns
 returns c =
     let t = c.args.self.now in
     let bs = t.bytes.buf.now in
-    record { outcome = at_slot t.held bs c.args.handle c.node.result c.if-handle-lt2.false c.if-handle-self.false (sym (c.node.ensures ∙ ap (slot bs) c.place-of.ensures)) }
+    record { outcome = at_slot t.held bs c.args.handle c.node.result c.if-handle-lt2.false c.if-handle-self.false (sym (c.node.ensures ∙ ap (slot bs) c.place_of.ensures)) }

@@ -38,19 +38,19 @@ returns-in-Some c =
       memory = exact t.held bs t.room t.laid;
     }
 
-pub returns-then-not-has-room : goal.returns-then-not-has-room
-returns-then-not-has-room c =
+pub returns-then-not-has_room : goal.returns-then-not-has_room
+returns-then-not-has_room c =
     let t = c.args.self.now in
     let bs = t.bytes.buf.now in
-    let d = decided (goal.at.returns-then-not-has-room c).After-fits in
+    let d = decided (goal.at.returns-then-not-has_room c).After-fits in
     let e = decode_length t.held bs in
     let r = t.room in
     record {
       inserted = record {
         outcome = inr (record {
           fit = d.0 c.if-not-fits.false;
-          absent = c.in-default.ensures;
-          full = elim (cases_lt t.held (size_of (length bs))) [ inl h ↦ absurd (both_ways _ c.if-not-has-room.true (c.has-room.ensures.1 h)) | inr h ↦ omega arith ];
+          absent = c.in_default.ensures;
+          full = elim (cases_lt t.held (size_of (length bs))) [ inl h ↦ absurd (both_ways _ c.if-not-has_room.true (c.has_room.ensures.1 h)) | inr h ↦ omega arith ];
           is = ap (fault Full) c.size-size.ensures.value;
           kept = refl;
         });
@@ -63,7 +63,7 @@ returns-then-not-has-room c =
 pub enter-requires : goal.enter-requires
 enter-requires c =
     let d = decided (goal.at.enter-requires c).After-fits in
-    record { room = c.has-room.ensures.0 c.if-not-has-room.false; fit = d.0 c.if-not-fits.false; absent = c.in-default.ensures }
+    record { room = c.has_room.ensures.0 c.if-not-has_room.false; fit = d.0 c.if-not-fits.false; absent = c.in_default.ensures }
 
 pub returns : goal.returns
 returns c =
@@ -73,9 +73,9 @@ returns c =
     let d = decided (goal.at.returns c).After-fits in
     let e = decode_length t.held bs in
     let x = c.enter.ensures in
-    let r = c.has-room.ensures.0 c.if-not-has-room.false in
+    let r = c.has_room.ensures.0 c.if-not-has_room.false in
     record {
-      inserted = record { outcome = (d.0 c.if-not-fits.false, inr (record { absent = c.in-default.ensures; room = omega arith; handle = omega (arith, x.handle); added = x.nodes })) };
+      inserted = record { outcome = (d.0 c.if-not-fits.false, inr (record { absent = c.in_default.ensures; room = omega arith; handle = omega (arith, x.handle); added = x.nodes })) };
       size = ap size_of x.length;
       rest = x.rest;
       memory = exact u.held u.bytes.buf.now u.room u.laid;

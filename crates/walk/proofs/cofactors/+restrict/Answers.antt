@@ -12,9 +12,9 @@ returns g t c =
     let before = own_before c.if-own-l.false c.if-own-l-2.false in
     let x = c.branches-f0.ensures in
     let d = restrict_sides c.requires.sound.formed x c.level-own.ensures _ c.args.value before in
-    let lo = c.in-ok-low.ensures in
-    let hi = c.in-ok-high.ensures in
-    let made = c.in-ok-h.ensures in
+    let lo = c.in_ok-low.ensures in
+    let hi = c.in_ok-high.ensures in
+    let made = c.in_ok-h.ensures in
     let same = cofactor_kept lo.value.outcome.grows.extends _ c.args.value _ x.hi_issued in
     let value = make_gives d lo.value same hi.value c.level-own.ensures made.value in
     record {
@@ -25,16 +25,16 @@ returns g t c =
       value = value;
     }
 
-pub returns-in-err-h : goal.returns-in-err-h
-returns-in-err-h g t c =
+pub returns-in_err-h : goal.returns-in_err-h
+returns-in_err-h g t c =
     let before = own_before c.if-own-l.false c.if-own-l-2.false in
     let x = c.branches-f0.ensures in
     let d = restrict_sides c.requires.sound.formed x c.level-own.ensures _ c.args.value before in
-    let lo = c.in-ok-low.ensures in
-    let hi = c.in-ok-high.ensures in
-    let made = c.in-err-h.ensures in
+    let lo = c.in_ok-low.ensures in
+    let hi = c.in_ok-high.ensures in
+    let made = c.in_err-h.ensures in
     let same = cofactor_kept lo.value.outcome.grows.extends _ c.args.value _ x.hi_issued in
-    let p = err_from_is_err_and c.from-residual-in-err-h.result c.from-residual-in-err-h.ensures.1 in
+    let p = err_from_is_err_and c.from_residual-in_err-h.result c.from_residual-in_err-h.ensures.1 in
     record {
       size = made.size ∙ hi.size ∙ lo.size;
       rest = made.rest ∙ hi.rest ∙ lo.rest;
@@ -43,23 +43,23 @@ returns-in-err-h g t c =
       value = rw (p.1, p.2) (make_refused d lo.value same hi.value (hi.size ∙ lo.size) made.value);
     }
 
-pub returns-in-err-high : goal.returns-in-err-high
-returns-in-err-high g t c =
+pub returns-in_err-high : goal.returns-in_err-high
+returns-in_err-high g t c =
     let before = own_before c.if-own-l.false c.if-own-l-2.false in
     let x = c.branches-f0.ensures in
     let d = restrict_sides c.requires.sound.formed x c.level-own.ensures _ c.args.value before in
-    let lo = c.in-ok-low.ensures in
-    let hi = c.in-err-high.ensures in
+    let lo = c.in_ok-low.ensures in
+    let hi = c.in_err-high.ensures in
     let same = cofactor_kept lo.value.outcome.grows.extends _ c.args.value _ x.hi_issued in
-    let p = err_from_is_err_and c.from-residual-in-err-high.result c.from-residual-in-err-high.ensures.1 in
+    let p = err_from_is_err_and c.from_residual-in_err-high.result c.from_residual-in_err-high.ensures.1 in
     record { size = hi.size ∙ lo.size; rest = hi.rest ∙ lo.rest; sound = hi.sound; right = hi.right; value = rw (p.1, p.2) (high_refused d lo.value same lo.size hi.value) }
 
-pub returns-in-err-low : goal.returns-in-err-low
-returns-in-err-low g t c =
+pub returns-in_err-low : goal.returns-in_err-low
+returns-in_err-low g t c =
     let before = own_before c.if-own-l.false c.if-own-l-2.false in
     let d = restrict_sides c.requires.sound.formed c.branches-f0.ensures c.level-own.ensures _ c.args.value before in
-    let lo = c.in-err-low.ensures in
-    let p = err_from_is_err_and c.from-residual.result c.from-residual.ensures.1 in
+    let lo = c.in_err-low.ensures in
+    let p = err_from_is_err_and c.from_residual.result c.from_residual.ensures.1 in
     record { size = lo.size; rest = lo.rest; sound = lo.sound; right = lo.right; value = rw (p.1, p.2) (low_refused d lo.value) }
 
 pub returns-then-own-l : goal.returns-then-own-l
@@ -115,7 +115,7 @@ restrict-requires g t c κs within =
 pub restrict-requires-2 : goal.restrict-requires-2
 restrict-requires-2 g t c κs within =
     let x = c.branches-f0.ensures in
-    let lo = c.in-ok-low.ensures in
+    let lo = c.in_ok-low.ensures in
     let e = lo.value.outcome.grows.extends in
     let falls = falls_under c.decreases (high_shrinks c.requires.sound.formed x c.level-own.ensures e) in
     (falls, (within.0, (within.1.0, (within.1.1, (lo.sound, (issued_kept e _ x.hi_issued, (c.requires.last, lo.right)))))))
@@ -127,8 +127,8 @@ make-requires g t c =
     let x = c.branches-f0.ensures in
     let at = c.level-own.ensures in
     let d = restrict_sides w x at _ c.args.value before in
-    let lo = c.in-ok-low.ensures in
-    let hi = c.in-ok-high.ensures in
+    let lo = c.in_ok-low.ensures in
+    let hi = c.in_ok-high.ensures in
     let e = lo.value.outcome.grows.extends in
     let same = cofactor_kept e _ c.args.value _ x.hi_issued in
     record {
