@@ -22,12 +22,12 @@ fn constant(b: bool) -> u16
 
 // The handle of a leaf: a constant's, or that of an option's sign variable.
 fn load<T: NodeTable>(table: &mut T, a: Leaf) -> Result<u16, TableFault>
-    requires sound { Sound (limit table.old) (nodes table.old) }
+    requires sound { Sound (T.limit table.old) (T.nodes table.old) }
     requires bounded { Bounded (Load a) }
-    ensures size { limit table.new ≡ limit table.old }
-    ensures rest { rest table.new ≡ rest table.old }
-    ensures sound { Sound (limit table.new) (nodes table.new) }
-    ensures value { Walked (limit table.old) (nodes table.old) 0 (of_tree (leaf a)) result (nodes table.new) }
+    ensures size { T.limit table.new ≡ T.limit table.old }
+    ensures rest { T.rest table.new ≡ T.rest table.old }
+    ensures sound { Sound (T.limit table.new) (T.nodes table.new) }
+    ensures value { Walked (T.limit table.old) (T.nodes table.old) 0 (of_tree (leaf a)) result (T.nodes table.new) }
 {
     match a {
         Leaf::Constant(b) => Ok(constant(b)),
@@ -43,16 +43,16 @@ pub(crate) fn make_step<T: NodeTable, C: Cache>(
     height: usize,
     step: Step,
 ) -> Result<u16, TableFault>
-    requires sound { Sound (limit table.old) (nodes table.old) }
-    requires right { Right (nodes table.old) (holds cache.old) }
+    requires sound { Sound (T.limit table.old) (T.nodes table.old) }
+    requires right { Right (T.nodes table.old) (C.holds cache.old) }
     requires enough { Enough step height }
     requires bounded { Bounded step }
-    requires means { (us : List Tree) × Mean (nodes table.old) (handles stack.now height) us }
-    ensures size { limit table.new ≡ limit table.old }
-    ensures rest { rest table.new ≡ rest table.old }
-    ensures sound { Sound (limit table.new) (nodes table.new) }
-    ensures right { Right (nodes table.new) (holds cache.new) }
-    ensures value { (us : List Tree) → Mean (nodes table.old) (handles stack.now height) us → Walked (limit table.old) (nodes table.old) 0 (of_tree (top step us)) result (nodes table.new) }
+    requires means { (us : List Tree) × Mean (T.nodes table.old) (handles stack.now height) us }
+    ensures size { T.limit table.new ≡ T.limit table.old }
+    ensures rest { T.rest table.new ≡ T.rest table.old }
+    ensures sound { Sound (T.limit table.new) (T.nodes table.new) }
+    ensures right { Right (T.nodes table.new) (C.holds cache.new) }
+    ensures value { (us : List Tree) → Mean (T.nodes table.old) (handles stack.now height) us → Walked (T.limit table.old) (T.nodes table.old) 0 (of_tree (top step us)) result (T.nodes table.new) }
 {
     match step {
         Step::Load(a) => load(table, a),

@@ -16,14 +16,14 @@ pub fn run_formula<T: NodeTable, C: Cache>(
     cache: &mut C,
     f: &Formula,
 ) -> Result<u16, TableFault>
-    requires sound { Sound (limit table.old) (nodes table.old) }
-    requires right { Right (nodes table.old) (holds cache.old) }
+    requires sound { Sound (T.limit table.old) (T.nodes table.old) }
+    requires right { Right (T.nodes table.old) (C.holds cache.old) }
     requires formula { IsPostfix f.now.steps f.now.len }
-    ensures size { limit table.new ≡ limit table.old }
-    ensures rest { rest table.new ≡ rest table.old }
-    ensures sound { Sound (limit table.new) (nodes table.new) }
-    ensures right { Right (nodes table.new) (holds cache.new) }
-    ensures value { (t : Tree) → steps_of f.now ≡ postfix t → Compiled (limit table.old) (nodes table.old) t result (nodes table.new) }
+    ensures size { T.limit table.new ≡ T.limit table.old }
+    ensures rest { T.rest table.new ≡ T.rest table.old }
+    ensures sound { Sound (T.limit table.new) (T.nodes table.new) }
+    ensures right { Right (T.nodes table.new) (C.holds cache.new) }
+    ensures value { (t : Tree) → steps_of f.now ≡ postfix t → Compiled (T.limit table.old) (T.nodes table.old) t result (T.nodes table.new) }
 {
     // A formula has at most 4,096 steps, and each puts one handle on the stack.
     let mut stack = [0u16; 4096];

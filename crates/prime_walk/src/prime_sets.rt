@@ -10,9 +10,9 @@ use walk::{Cache, Op, Task, apply, branches, make};
 
 // Whether h depends on signs alone; it stops at the first node that shows otherwise.
 pub fn signs_only<T: NodeTable>(table: &T, h: u16) -> bool
-    requires sound { Sound (limit table.now) (nodes table.now) }
-    requires issued { Issued (nodes table.now) h }
-    ensures { (result ≡ true) ↔ SignsOnly 0 (meaning (nodes table.now) h) }
+    requires sound { Sound (T.limit table.now) (T.nodes table.now) }
+    requires issued { Issued (T.nodes table.now) h }
+    ensures { (result ≡ true) ↔ SignsOnly 0 (meaning (T.nodes table.now) h) }
 {
     match table.get(h) {
         Ok(n) => {
@@ -38,17 +38,17 @@ fn unite<T: NodeTable, C: Cache>(
     p0: u16,
     p1: u16,
 ) -> Result<u16, TableFault>
-    requires sound { Sound (limit table.old) (nodes table.old) }
+    requires sound { Sound (T.limit table.old) (T.nodes table.old) }
     requires option { gone < 12 }
-    requires p { Stands (nodes table.old) (2 * gone + 3) p (meaning (nodes table.old) p) }
-    requires low { Stands (nodes table.old) (2 * gone + 3) p0 (meaning (nodes table.old) p0) }
-    requires high { Stands (nodes table.old) (2 * gone + 3) p1 (meaning (nodes table.old) p1) }
-    requires right { Right (nodes table.old) (holds cache.old) }
-    ensures size { limit table.new ≡ limit table.old }
-    ensures rest { rest table.new ≡ rest table.old }
-    ensures sound { Sound (limit table.new) (nodes table.new) }
-    ensures right { Right (nodes table.new) (holds cache.new) }
-    ensures value { Walked (limit table.old) (nodes table.old) (2 * gone + 1) (primes_by_halves gone (meaning (nodes table.old) p) (meaning (nodes table.old) p0) (meaning (nodes table.old) p1)) result (nodes table.new) }
+    requires p { Stands (T.nodes table.old) (2 * gone + 3) p (meaning (T.nodes table.old) p) }
+    requires low { Stands (T.nodes table.old) (2 * gone + 3) p0 (meaning (T.nodes table.old) p0) }
+    requires high { Stands (T.nodes table.old) (2 * gone + 3) p1 (meaning (T.nodes table.old) p1) }
+    requires right { Right (T.nodes table.old) (C.holds cache.old) }
+    ensures size { T.limit table.new ≡ T.limit table.old }
+    ensures rest { T.rest table.new ≡ T.rest table.old }
+    ensures sound { Sound (T.limit table.new) (T.nodes table.new) }
+    ensures right { Right (T.nodes table.new) (C.holds cache.new) }
+    ensures value { Walked (T.limit table.old) (T.nodes table.old) (2 * gone + 1) (primes_by_halves gone (meaning (T.nodes table.old) p) (meaning (T.nodes table.old) p0) (meaning (T.nodes table.old) p1)) result (T.nodes table.new) }
 {
     let q0 = apply(table, cache, Op::AndNot, p0, p)?;
     let q1 = apply(table, cache, Op::AndNot, p1, p)?;
@@ -64,16 +64,16 @@ pub fn primes<T: NodeTable, C: Cache>(
     f: u16,
     gone: u8,
 ) -> Result<u16, TableFault>
-    requires sound { Sound (limit table.old) (nodes table.old) }
-    requires f { Issued (nodes table.old) f }
+    requires sound { Sound (T.limit table.old) (T.nodes table.old) }
+    requires f { Issued (T.nodes table.old) f }
     requires option { gone ≤ 12 }
-    requires signs { SignsOnly gone (meaning (nodes table.old) f) }
-    requires right { Right (nodes table.old) (holds cache.old) }
-    ensures size { limit table.new ≡ limit table.old }
-    ensures rest { rest table.new ≡ rest table.old }
-    ensures sound { Sound (limit table.new) (nodes table.new) }
-    ensures right { Right (nodes table.new) (holds cache.new) }
-    ensures value { PrimesWalked (limit table.old) (12 - gone) gone (meaning (nodes table.old) f) (nodes table.old) result (nodes table.new) }
+    requires signs { SignsOnly gone (meaning (T.nodes table.old) f) }
+    requires right { Right (T.nodes table.old) (C.holds cache.old) }
+    ensures size { T.limit table.new ≡ T.limit table.old }
+    ensures rest { T.rest table.new ≡ T.rest table.old }
+    ensures sound { Sound (T.limit table.new) (T.nodes table.new) }
+    ensures right { Right (T.nodes table.new) (C.holds cache.new) }
+    ensures value { PrimesWalked (T.limit table.old) (12 - gone) gone (meaning (T.nodes table.old) f) (T.nodes table.old) result (T.nodes table.new) }
 {
     if gone == 12 {
         return Ok(f);

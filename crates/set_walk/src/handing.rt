@@ -73,7 +73,7 @@ impl Prefix {
 fn hand<R: Receiver>(receiver: &mut R, counts: &mut [u8], out: &mut [u8], before: Prefix)
     requires room { length counts.old ≡ 4096 }
     requires masks { Masks before.named before.sign }
-    ensures { (cs os : List ℕ) (ps : List (Words 12)) → fed cs os receiver.old counts.old out.old ps → fed cs os receiver.new counts.new out.new (ps ++ (whole 0 before tt ∷ [])) }
+    ensures { (cs os : List ℕ) (ps : List (Words 12)) → R.fed cs os receiver.old counts.old out.old ps → R.fed cs os receiver.new counts.new out.new (ps ++ (whole 0 before tt ∷ [])) }
 {
     match Product::new(before.named, before.sign) {
         Ok(product) => receiver.take(counts, out, product),
@@ -91,11 +91,11 @@ fn walk<T: NodeTable, R: Receiver>(
     before: Prefix,
 )
     requires room { length counts.old ≡ 4096 }
-    requires sound { Sound (limit table.now) (nodes table.now) }
-    requires issued { Issued (nodes table.now) set }
-    requires level { 2 * before.gone + 1 ≤ level_of (nodes table.now) set }
+    requires sound { Sound (T.limit table.now) (T.nodes table.now) }
+    requires issued { Issued (T.nodes table.now) set }
+    requires level { 2 * before.gone + 1 ≤ level_of (T.nodes table.now) set }
     requires begun { Begun before }
-    ensures { (cs os : List ℕ) (ps : List (Words 12)) → fed cs os receiver.old counts.old out.old ps → fed cs os receiver.new counts.new out.new (ps ++ handed before (meaning (nodes table.now) set)) }
+    ensures { (cs os : List ℕ) (ps : List (Words 12)) → R.fed cs os receiver.old counts.old out.old ps → R.fed cs os receiver.new counts.new out.new (ps ++ handed before (meaning (T.nodes table.now) set)) }
 {
     if set == 0 {
         return;
@@ -121,9 +121,9 @@ pub fn hand_over<T: NodeTable, R: Receiver>(
     out: &mut [u8],
 )
     requires room { length counts.old ≡ 4096 }
-    requires sound { Sound (limit table.now) (nodes table.now) }
-    requires issued { Issued (nodes table.now) set }
-    ensures { (cs os : List ℕ) (ps : List (Words 12)) → fed cs os receiver.old counts.old out.old ps → fed cs os receiver.new counts.new out.new (ps ++ listed 12 (products_of (meaning (nodes table.now) set))) }
+    requires sound { Sound (T.limit table.now) (T.nodes table.now) }
+    requires issued { Issued (T.nodes table.now) set }
+    ensures { (cs os : List ℕ) (ps : List (Words 12)) → R.fed cs os receiver.old counts.old out.old ps → R.fed cs os receiver.new counts.new out.new (ps ++ listed 12 (products_of (meaning (T.nodes table.now) set))) }
 {
     let none = Prefix {
         gone: 0,

@@ -11,9 +11,9 @@ use walk::branches;
 
 // Whether h means a product set; it stops at the first node that shows otherwise.
 pub fn is_product_set<T: NodeTable>(table: &T, h: u16) -> bool
-    requires sound { Sound (limit table.now) (nodes table.now) }
-    requires issued { Issued (nodes table.now) h }
-    ensures { (result ≡ true) ↔ ProductSet (meaning (nodes table.now) h) }
+    requires sound { Sound (T.limit table.now) (T.nodes table.now) }
+    requires issued { Issued (T.nodes table.now) h }
+    ensures { (result ≡ true) ↔ ProductSet (meaning (T.nodes table.now) h) }
 {
     match table.get(h) {
         Ok(n) => {
@@ -63,9 +63,9 @@ fn child(n: Node, product: Product) -> u16
 
 // What a handle answers at a product: one way down.
 pub fn answer_at<T: NodeTable>(table: &T, set: u16, product: Product) -> bool
-    requires sound { Sound (limit table.now) (nodes table.now) }
-    requires issued { Issued (nodes table.now) set }
-    ensures { result ≡ products_of (meaning (nodes table.now) set) (words_of product) }
+    requires sound { Sound (T.limit table.now) (T.nodes table.now) }
+    requires issued { Issued (T.nodes table.now) set }
+    ensures { result ≡ products_of (meaning (T.nodes table.now) set) (words_of product) }
 {
     match table.get(set) {
         Ok(n) => answer_at(table, child(n, product), product),

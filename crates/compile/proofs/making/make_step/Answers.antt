@@ -65,5 +65,5 @@ returns-in-Apply g c =
       rest = made.rest;
       sound = made.sound;
       right = made.right;
-      value = λ us m. walked_as _ (apply_function ns c.args.stack.now c.args.height _ _ c.op-of.ensures n.0 us m ∙ ap (λ s. of_tree (top s us)) (sym c.in-Apply.is)) made.value;
+      value = λ us m. walked_as _ (apply_function ns c.args.stack.now c.args.height _ _ c.op_of.ensures n.0 us m ∙ ap (λ s. of_tree (top s us)) (sym c.in-Apply.is)) made.value;
     }

@@ -10,8 +10,8 @@ loop-i-init g c =
     let few = steps_few c.args.f.now steps c.steps-steps.ensures in
     (ran_none steps (g.T.NodeTable.nodes c.args.table.now) _ c.requires.sound.formed few (length-replicate {A = ℕ} 4096 0), refl, refl, c.requires.sound, c.requires.right)
 
-pub make-step-requires : goal.make-step-requires
-make-step-requires g c =
+pub make_step-requires : goal.make_step-requires
+make_step-requires g c =
     let r = c.loop-i.invariant.0 in
     let p = c.requires.formula in
     let e = c.steps-steps.ensures ∙ p.3 in
@@ -23,11 +23,11 @@ make-step-requires g c =
       means = (r.trees, r.mean);
     }
 
-pub returns-in-err-h : goal.returns-in-err-h
-returns-in-err-h g c =
+pub returns-in_err-h : goal.returns-in_err-h
+returns-in_err-h g c =
     let r = c.loop-i.invariant.0 in
-    let made = c.in-err-h.ensures in
-    let p = err_from_is_err_and c.from-residual.result c.from-residual.ensures.1 in
+    let made = c.in_err-h.ensures in
+    let p = err_from_is_err_and c.from_residual.result c.from_residual.ensures.1 in
     record {
       size = made.size ∙ c.loop-i.invariant.1;
       rest = made.rest ∙ c.loop-i.invariant.2;
@@ -45,7 +45,7 @@ pub loop-i-preserved : goal.loop-i-preserved
 loop-i-preserved g c =
     let r = c.loop-i.invariant.0 in
     let p = c.requires.formula in
-    let made = c.in-ok-h.ensures in (
+    let made = c.in_ok-h.ensures in (
       step_ran r p.1 (c.steps-steps.ensures ∙ p.3) _ c.loop-i-test.true c.place-at.ensures.is (made.value r.trees r.mean),
       made.size ∙ c.loop-i.invariant.1,
       made.rest ∙ c.loop-i.invariant.2,

@@ -33,45 +33,45 @@ branches-f0-requires g t c = record {
 pub apply-requires : goal.apply-requires
 apply-requires g t c = record { sound = c.requires.sound; f = c.branches-f0.ensures.lo_issued; g = c.branches-f0.ensures.hi_issued; right = c.requires.right }
 
-pub returns-in-err-both : goal.returns-in-err-both
-returns-in-err-both g t c =
+pub returns-in_err-both : goal.returns-in_err-both
+returns-in_err-both g t c =
     let d = divides c.requires.sound c.requires.option c.if-gone-eq12.false c.requires.f c.requires.signs c.branches-f0.ensures in
-    let x = c.in-err-both.ensures in
-    let r = err_from_is_err_and c.from-residual.result c.from-residual.ensures.1 in
+    let x = c.in_err-both.ensures in
+    let r = err_from_is_err_and c.from_residual.result c.from_residual.ensures.1 in
     record { size = x.size; rest = x.rest; sound = x.sound; right = x.right; value = rw (r.1, r.2) (and_refused d x.value) }
 
 pub primes-requires : goal.primes-requires
 primes-requires g t c κs within =
     let d = divides c.requires.sound c.requires.option c.if-gone-eq12.false c.requires.f c.requires.signs c.branches-f0.ensures in
-    let a = c.in-ok-both.ensures in
+    let a = c.in_ok-both.ensures in
     let falls = options_fall c.decreases c.requires.option c.if-gone-eq12.false in
     let option = next_left c.requires.option c.if-gone-eq12.false in
     (falls, (within.0, (within.1.0, (within.1.1, (a.sound, (a.value.outcome.stands.issued, (option, (and_signs d a.value, a.right))))))))
 
-pub returns-in-err-p : goal.returns-in-err-p
-returns-in-err-p g t c =
+pub returns-in_err-p : goal.returns-in_err-p
+returns-in_err-p g t c =
     let d = divides c.requires.sound c.requires.option c.if-gone-eq12.false c.requires.f c.requires.signs c.branches-f0.ensures in
-    let a = c.in-ok-both.ensures in
-    let x = c.in-err-p.ensures in
-    let r = err_from_is_err_and c.from-residual-in-err-p.result c.from-residual-in-err-p.ensures.1 in
+    let a = c.in_ok-both.ensures in
+    let x = c.in_err-p.ensures in
+    let r = err_from_is_err_and c.from_residual-in_err-p.result c.from_residual-in_err-p.ensures.1 in
     record { size = x.size ∙ a.size; rest = x.rest ∙ a.rest; sound = x.sound; right = x.right; value = rw (r.1, r.2) (both_refused d a.value a.size x.value) }
 
 pub primes-requires-2 : goal.primes-requires-2
 primes-requires-2 g t c κs within =
     let d = divides c.requires.sound c.requires.option c.if-gone-eq12.false c.requires.f c.requires.signs c.branches-f0.ensures in
-    let a = c.in-ok-both.ensures in
-    let b = c.in-ok-p.ensures in
+    let a = c.in_ok-both.ensures in
+    let b = c.in_ok-p.ensures in
     let falls = options_fall c.decreases c.requires.option c.if-gone-eq12.false in
     let option = next_left c.requires.option c.if-gone-eq12.false in
     (falls, (within.0, (within.1.0, (within.1.1, (b.sound, (low_issued d a.value b.value, (option, (low_signs d a.value b.value, b.right))))))))
 
-pub returns-in-err-p0 : goal.returns-in-err-p0
-returns-in-err-p0 g t c =
+pub returns-in_err-p0 : goal.returns-in_err-p0
+returns-in_err-p0 g t c =
     let d = divides c.requires.sound c.requires.option c.if-gone-eq12.false c.requires.f c.requires.signs c.branches-f0.ensures in
-    let a = c.in-ok-both.ensures in
-    let b = c.in-ok-p.ensures in
-    let x = c.in-err-p0.ensures in
-    let r = err_from_is_err_and c.from-residual-in-err-p0.result c.from-residual-in-err-p0.ensures.1 in
+    let a = c.in_ok-both.ensures in
+    let b = c.in_ok-p.ensures in
+    let x = c.in_err-p0.ensures in
+    let r = err_from_is_err_and c.from_residual-in_err-p0.result c.from_residual-in_err-p0.ensures.1 in
     record {
       size = x.size ∙ b.size ∙ a.size;
       rest = x.rest ∙ b.rest ∙ a.rest;
@@ -83,21 +83,21 @@ returns-in-err-p0 g t c =
 pub primes-requires-3 : goal.primes-requires-3
 primes-requires-3 g t c κs within =
     let d = divides c.requires.sound c.requires.option c.if-gone-eq12.false c.requires.f c.requires.signs c.branches-f0.ensures in
-    let a = c.in-ok-both.ensures in
-    let b = c.in-ok-p.ensures in
-    let lo = c.in-ok-p0.ensures in
+    let a = c.in_ok-both.ensures in
+    let b = c.in_ok-p.ensures in
+    let lo = c.in_ok-p0.ensures in
     let falls = options_fall c.decreases c.requires.option c.if-gone-eq12.false in
     let option = next_left c.requires.option c.if-gone-eq12.false in
     (falls, (within.0, (within.1.0, (within.1.1, (lo.sound, (high_issued d a.value b.value lo.value, (option, (high_signs d a.value b.value lo.value, lo.right))))))))
 
-pub returns-in-err-p1 : goal.returns-in-err-p1
-returns-in-err-p1 g t c =
+pub returns-in_err-p1 : goal.returns-in_err-p1
+returns-in_err-p1 g t c =
     let d = divides c.requires.sound c.requires.option c.if-gone-eq12.false c.requires.f c.requires.signs c.branches-f0.ensures in
-    let a = c.in-ok-both.ensures in
-    let b = c.in-ok-p.ensures in
-    let lo = c.in-ok-p0.ensures in
-    let x = c.in-err-p1.ensures in
-    let r = err_from_is_err_and c.from-residual-in-err-p1.result c.from-residual-in-err-p1.ensures.1 in
+    let a = c.in_ok-both.ensures in
+    let b = c.in_ok-p.ensures in
+    let lo = c.in_ok-p0.ensures in
+    let x = c.in_err-p1.ensures in
+    let r = err_from_is_err_and c.from_residual-in_err-p1.result c.from_residual-in_err-p1.ensures.1 in
     record {
       size = x.size ∙ lo.size ∙ b.size ∙ a.size;
       rest = x.rest ∙ lo.rest ∙ b.rest ∙ a.rest;
@@ -109,10 +109,10 @@ returns-in-err-p1 g t c =
 pub unite-requires : goal.unite-requires
 unite-requires g t c =
     let d = divides c.requires.sound c.requires.option c.if-gone-eq12.false c.requires.f c.requires.signs c.branches-f0.ensures in
-    let a = c.in-ok-both.ensures in
-    let b = c.in-ok-p.ensures in
-    let lo = c.in-ok-p0.ensures in
-    let hi = c.in-ok-p1.ensures in
+    let a = c.in_ok-both.ensures in
+    let b = c.in_ok-p.ensures in
+    let lo = c.in_ok-p0.ensures in
+    let hi = c.in_ok-p1.ensures in
     record {
       sound = hi.sound;
       option = option_left c.requires.option c.if-gone-eq12.false;
@@ -122,15 +122,15 @@ unite-requires g t c =
       right = hi.right;
     }
 
-pub returns-in-err-h : goal.returns-in-err-h
-returns-in-err-h g t c =
+pub returns-in_err-h : goal.returns-in_err-h
+returns-in_err-h g t c =
     let d = divides c.requires.sound c.requires.option c.if-gone-eq12.false c.requires.f c.requires.signs c.branches-f0.ensures in
-    let a = c.in-ok-both.ensures in
-    let b = c.in-ok-p.ensures in
-    let lo = c.in-ok-p0.ensures in
-    let hi = c.in-ok-p1.ensures in
-    let x = c.in-err-h.ensures in
-    let r = err_from_is_err_and c.from-residual-in-err-h.result c.from-residual-in-err-h.ensures.1 in
+    let a = c.in_ok-both.ensures in
+    let b = c.in_ok-p.ensures in
+    let lo = c.in_ok-p0.ensures in
+    let hi = c.in_ok-p1.ensures in
+    let x = c.in_err-h.ensures in
+    let r = err_from_is_err_and c.from_residual-in_err-h.result c.from_residual-in_err-h.ensures.1 in
     record {
       size = x.size ∙ hi.size ∙ lo.size ∙ b.size ∙ a.size;
       rest = x.rest ∙ hi.rest ∙ lo.rest ∙ b.rest ∙ a.rest;
@@ -142,11 +142,11 @@ returns-in-err-h g t c =
 pub returns : goal.returns
 returns g t c =
     let d = divides c.requires.sound c.requires.option c.if-gone-eq12.false c.requires.f c.requires.signs c.branches-f0.ensures in
-    let a = c.in-ok-both.ensures in
-    let b = c.in-ok-p.ensures in
-    let lo = c.in-ok-p0.ensures in
-    let hi = c.in-ok-p1.ensures in
-    let x = c.in-ok-h.ensures in
+    let a = c.in_ok-both.ensures in
+    let b = c.in_ok-p.ensures in
+    let lo = c.in_ok-p0.ensures in
+    let hi = c.in_ok-p1.ensures in
+    let x = c.in_ok-h.ensures in
     let value = primes_given d a.value b.value lo.value hi.value x.value in
     record {
       size = x.size ∙ hi.size ∙ lo.size ∙ b.size ∙ a.size;

@@ -13,16 +13,16 @@ returns-then-n-eq1 g t c = (λ e. absurd (false≢true e), λ s. absurd (odd_rea
 
 pub returns-then-not-low : goal.returns-then-not-low
 returns-then-not-low g t c =
-    (λ e. absurd (false≢true e), λ s. absurd (false≢true (sym c.if-not-low.true ∙ c.signs-only-low.ensures.1 (signs_of_low c.requires.sound c.in-Ok.ensures s))))
+    (λ e. absurd (false≢true e), λ s. absurd (false≢true (sym c.if-not-low.true ∙ c.signs_only-low.ensures.1 (signs_of_low c.requires.sound c.in-Ok.ensures s))))
 
-pub signs-only-low-requires : goal.signs-only-low-requires
-signs-only-low-requires g t c κs within =
+pub signs_only-low-requires : goal.signs_only-low-requires
+signs_only-low-requires g t c κs within =
     let s = c.requires.sound in
     let n = c.in-Ok.ensures in
     (falls_under c.decreases (signs_low_falls s n), (within.0, (within.1, (s, signs_low_issued s n))))
 
-pub signs-only-requires : goal.signs-only-requires
-signs-only-requires g t c κs within =
+pub signs_only-requires : goal.signs_only-requires
+signs_only-requires g t c κs within =
     let s = c.requires.sound in
     let n = c.in-Ok.ensures in
     (falls_under c.decreases (signs_high_falls s n), (within.0, (within.1, (s, signs_high_issued s n))))
@@ -31,6 +31,6 @@ pub returns-else-not-low : goal.returns-else-not-low
 returns-else-not-low g t c =
     let s = c.requires.sound in
     let n = c.in-Ok.ensures in (
-      λ e. even_signs s n c.if-n-eq1.false (c.signs-only-low.ensures.0 c.if-not-low.false) (c.signs-only.ensures.0 e),
-      λ z. c.signs-only.ensures.1 (signs_of_high s n z),
+      λ e. even_signs s n c.if-n-eq1.false (c.signs_only-low.ensures.0 c.if-not-low.false) (c.signs_only.ensures.0 e),
+      λ z. c.signs_only.ensures.1 (signs_of_high s n z),
     )

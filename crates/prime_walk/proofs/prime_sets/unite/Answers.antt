@@ -7,15 +7,15 @@ use Rattle.prime_walk.proofs.prime_sets.unite.Goals as goal
 pub apply-requires : goal.apply-requires
 apply-requires g c = record { sound = c.requires.sound; f = c.requires.low.issued; g = c.requires.p.issued; right = c.requires.right }
 
-pub returns-in-err-q0 : goal.returns-in-err-q0
-returns-in-err-q0 g c =
-    let r = err_from_is_err_and c.from-residual.result c.from-residual.ensures.1 in
-    let x = c.in-err-q0.ensures in
+pub returns-in_err-q0 : goal.returns-in_err-q0
+returns-in_err-q0 g c =
+    let r = err_from_is_err_and c.from_residual.result c.from_residual.ensures.1 in
+    let x = c.in_err-q0.ensures in
     record { size = x.size; rest = x.rest; sound = x.sound; right = x.right; value = rw (r.1, r.2) (first_refused c.requires.sound c.requires.option c.requires.p c.requires.low c.requires.high x.value) }
 
 pub apply-requires-2 : goal.apply-requires-2
 apply-requires-2 g c =
-    let a = c.in-ok-q0.ensures in
+    let a = c.in_ok-q0.ensures in
     let pre = c.requires in
     record {
       sound = a.sound;
@@ -24,11 +24,11 @@ apply-requires-2 g c =
       right = a.right;
     }
 
-pub returns-in-err-q1 : goal.returns-in-err-q1
-returns-in-err-q1 g c =
-    let r = err_from_is_err_and c.from-residual-in-err-q1.result c.from-residual-in-err-q1.ensures.1 in
-    let a = c.in-ok-q0.ensures in
-    let x = c.in-err-q1.ensures in
+pub returns-in_err-q1 : goal.returns-in_err-q1
+returns-in_err-q1 g c =
+    let r = err_from_is_err_and c.from_residual-in_err-q1.result c.from_residual-in_err-q1.ensures.1 in
+    let a = c.in_ok-q0.ensures in
+    let x = c.in_err-q1.ensures in
     let pre = c.requires in
     record {
       size = x.size ∙ a.size;
@@ -40,8 +40,8 @@ returns-in-err-q1 g c =
 
 pub make-requires : goal.make-requires
 make-requires g c =
-    let a = c.in-ok-q0.ensures in
-    let b = c.in-ok-q1.ensures in
+    let a = c.in_ok-q0.ensures in
+    let b = c.in_ok-q1.ensures in
     let pre = c.requires in
     record {
       sound = b.sound;
@@ -50,12 +50,12 @@ make-requires g c =
       first = omega arith;
     }
 
-pub returns-in-err-s : goal.returns-in-err-s
-returns-in-err-s g c =
-    let r = err_from_is_err_and c.from-residual-in-err-s.result c.from-residual-in-err-s.ensures.1 in
-    let a = c.in-ok-q0.ensures in
-    let b = c.in-ok-q1.ensures in
-    let x = c.in-err-s.ensures in
+pub returns-in_err-s : goal.returns-in_err-s
+returns-in_err-s g c =
+    let r = err_from_is_err_and c.from_residual-in_err-s.result c.from_residual-in_err-s.ensures.1 in
+    let a = c.in_ok-q0.ensures in
+    let b = c.in_ok-q1.ensures in
+    let x = c.in_err-s.ensures in
     let pre = c.requires in
     record {
       size = x.size ∙ b.size ∙ a.size;
@@ -67,9 +67,9 @@ returns-in-err-s g c =
 
 pub make-requires-2 : goal.make-requires-2
 make-requires-2 g c =
-    let a = c.in-ok-q0.ensures in
-    let b = c.in-ok-q1.ensures in
-    let s = c.in-ok-s.ensures in
+    let a = c.in_ok-q0.ensures in
+    let b = c.in_ok-q1.ensures in
+    let s = c.in_ok-s.ensures in
     let pre = c.requires in
     record {
       sound = s.sound;
@@ -80,9 +80,9 @@ make-requires-2 g c =
 
 pub returns : goal.returns
 returns g c =
-    let a = c.in-ok-q0.ensures in
-    let b = c.in-ok-q1.ensures in
-    let s = c.in-ok-s.ensures in
+    let a = c.in_ok-q0.ensures in
+    let b = c.in_ok-q1.ensures in
+    let s = c.in_ok-s.ensures in
     let x = c.make-2.ensures in
     let pre = c.requires in
     record {

@@ -7,8 +7,8 @@ use Rattle.set_walk.proofs.sets.+answer_at.Goals as goal
 pub child-requires : goal.child-requires
 child-requires g t c = (node_fit c.requires.sound c.in-Ok.ensures).last
 
-pub answer-at-requires : goal.answer-at-requires
-answer-at-requires g t c κs within =
+pub answer_at-requires : goal.answer_at-requires
+answer_at-requires g t c κs within =
     let s = c.requires.sound in
     let n = c.in-Ok.ensures in
     let p = c.args.product in
@@ -16,7 +16,7 @@ answer-at-requires g t c κs within =
     (falls_under c.decreases (child_falls s n p e), (within.0, (within.1, (s, child_issued s n p e))))
 
 pub returns-in-Ok : goal.returns-in-Ok
-returns-in-Ok g t c = c.answer-at.ensures ∙ child_same c.requires.sound c.in-Ok.ensures c.args.product c.child.ensures
+returns-in-Ok g t c = c.answer_at.ensures ∙ child_same c.requires.sound c.in-Ok.ensures c.args.product c.child.ensures
 
 pub returns-in-Err : goal.returns-in-Err
 returns-in-Err g t c = constant_answers (g.T.NodeTable.nodes c.args.table.now) c.args.set (gotten_none c.requires.issued c.in-Err.ensures) c.args.product

@@ -11,8 +11,8 @@ returns-in-Err g t c = (λ _. constant_set (g.T.NodeTable.nodes c.args.table.now
 pub returns-then-n-eq0 : goal.returns-then-n-eq0
 returns-then-n-eq0 g t c = (λ e. absurd (false≢true e), λ z. absurd (even_node c.requires.sound c.in-Ok.ensures c.if-n-eq0.true z))
 
-pub is-product-set-absent-requires : goal.is-product-set-absent-requires
-is-product-set-absent-requires g t c κs within =
+pub is_product_set-absent-requires : goal.is_product_set-absent-requires
+is_product_set-absent-requires g t c κs within =
     let s = c.requires.sound in
     let n = c.in-Ok.ensures in
     let f = node_fit s n in
@@ -21,11 +21,11 @@ is-product-set-absent-requires g t c κs within =
 pub returns-then-not-absent : goal.returns-then-not-absent
 returns-then-not-absent g t c = (
   λ e. absurd (false≢true e),
-  λ z. absurd (false≢true (sym c.if-not-absent.true ∙ c.is-product-set-absent.ensures.1 (absent_set c.requires.sound c.in-Ok.ensures c.if-n-eq0.false z))),
+  λ z. absurd (false≢true (sym c.if-not-absent.true ∙ c.is_product_set-absent.ensures.1 (absent_set c.requires.sound c.in-Ok.ensures c.if-n-eq0.false z))),
 )
 
-pub overflow-add-n : goal.overflow-add-n
-overflow-add-n g t c =
+pub overflow_add-n : goal.overflow_add-n
+overflow_add-n g t c =
     let few = sign_last c.requires.sound c.in-Ok.ensures c.if-n-eq0.false in
     search (rules, few)
 
@@ -36,8 +36,8 @@ branches-no-requires g t c =
     let f = node_fit s n in
     record { sound = s; issued = f.high_issued; level = omega (arith, f.high_deeper); last = sign_last s n c.if-n-eq0.false }
 
-pub is-product-set-refused-requires : goal.is-product-set-refused-requires
-is-product-set-refused-requires g t c κs within =
+pub is_product_set-refused-requires : goal.is_product_set-refused-requires
+is_product_set-refused-requires g t c κs within =
     let s = c.requires.sound in
     let d = c.branches-no.ensures in
     (falls_under c.decreases (no_falls s c.in-Ok.ensures c.if-n-eq0.false d), (within.0, (within.1, (s, d.lo_issued))))
@@ -45,17 +45,17 @@ is-product-set-refused-requires g t c κs within =
 pub returns-then-not-refused : goal.returns-then-not-refused
 returns-then-not-refused g t c = (
   λ e. absurd (false≢true e),
-  λ z. absurd (false≢true (sym c.if-not-refused.true ∙ c.is-product-set-refused.ensures.1 (refused_set c.requires.sound c.in-Ok.ensures c.if-n-eq0.false c.branches-no.ensures z))),
+  λ z. absurd (false≢true (sym c.if-not-refused.true ∙ c.is_product_set-refused.ensures.1 (refused_set c.requires.sound c.in-Ok.ensures c.if-n-eq0.false c.branches-no.ensures z))),
 )
 
 pub returns-then-no-yes : goal.returns-then-no-yes
 returns-then-no-yes g t c =
-    let absent = c.is-product-set-absent.ensures.0 c.if-not-absent.false in
-    let refused = c.is-product-set-refused.ensures.0 c.if-not-refused.false in
+    let absent = c.is_product_set-absent.ensures.0 c.if-not-absent.false in
+    let refused = c.is_product_set-refused.ensures.0 c.if-not-refused.false in
     (λ _. unread_set c.requires.sound c.in-Ok.ensures c.if-n-eq0.false c.branches-no.ensures c.if-no-yes.true absent refused, λ _. refl)
 
-pub is-product-set-requires : goal.is-product-set-requires
-is-product-set-requires g t c κs within =
+pub is_product_set-requires : goal.is_product_set-requires
+is_product_set-requires g t c κs within =
     let s = c.requires.sound in
     let d = c.branches-no.ensures in
     (falls_under c.decreases (yes_falls s c.in-Ok.ensures c.if-n-eq0.false d), (within.0, (within.1, (s, d.hi_issued))))
@@ -65,8 +65,8 @@ returns-else-no-yes g t c =
     let s = c.requires.sound in
     let n = c.in-Ok.ensures in
     let d = c.branches-no.ensures in
-    let absent = c.is-product-set-absent.ensures.0 c.if-not-absent.false in
-    let refused = c.is-product-set-refused.ensures.0 c.if-not-refused.false in (
-      λ e. whole_set s n c.if-n-eq0.false d absent refused (c.is-product-set.ensures.0 e),
-      λ z. c.is-product-set.ensures.1 (wanted_set s n c.if-n-eq0.false d z),
+    let absent = c.is_product_set-absent.ensures.0 c.if-not-absent.false in
+    let refused = c.is_product_set-refused.ensures.0 c.if-not-refused.false in (
+      λ e. whole_set s n c.if-n-eq0.false d absent refused (c.is_product_set.ensures.0 e),
+      λ z. c.is_product_set.ensures.1 (wanted_set s n c.if-n-eq0.false d z),
     )

@@ -2,5 +2,5 @@ use Rattle.std.proofs.Common.{◌-◌}
 use Rattle.diagram.specs.Nodes.{level_of}
 use Rattle.set_walk.proofs.sets.+is_product_set.Given as goal
 
-abbrev pub decreases-is-product-set : goal.decreases-is-product-set
-decreases-is-product-set g l = 25 - level_of (g.T.NodeTable.nodes l.table.now) l.h
+abbrev pub decreases-is_product_set : goal.decreases-is_product_set
+decreases-is_product_set g l = 25 - level_of (g.T.NodeTable.nodes l.table.now) l.h
