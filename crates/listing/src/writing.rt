@@ -15,9 +15,9 @@ use table::NodeTable;
 // Counts the products of a set by version, and answers how long their rows are, how many there are, and how many essential.
 fn measure<T: NodeTable>(table: &T, set: u16, counts: &mut [u8]) -> Sizer
     requires clear { counts.old ≡ replicate 4096 0 }
-    requires sound { Sound (limit table.now) (nodes table.now) }
-    requires issued { Issued (nodes table.now) set }
-    ensures { Measured (listed 12 (products_of (meaning (nodes table.now) set))) counts.new result.bytes result.primes result.essential }
+    requires sound { Sound (T.limit table.now) (T.nodes table.now) }
+    requires issued { Issued (T.nodes table.now) set }
+    ensures { Measured (listed 12 (products_of (meaning (T.nodes table.now) set))) counts.new result.bytes result.primes result.essential }
 {
     let mut nothing = [0u8; 0];
     let mut counter = Counter;
@@ -33,9 +33,9 @@ fn measure<T: NodeTable>(table: &T, set: u16, counts: &mut [u8]) -> Sizer
 
 // Writes the list of the condition whose primes the set has, or nothing where it does not fit.
 pub fn write_list<T: NodeTable>(table: &T, set: u16, out: &mut [u8]) -> Result<usize, ListFault>
-    requires sound { Sound (limit table.now) (nodes table.now) }
-    requires issued { Issued (nodes table.now) set }
-    ensures { Listed (meaning (nodes table.now) set) result out.old out.new }
+    requires sound { Sound (T.limit table.now) (T.nodes table.now) }
+    requires issued { Issued (T.nodes table.now) set }
+    ensures { Listed (meaning (T.nodes table.now) set) result out.old out.new }
 {
     let mut counts = [0u8; 4096];
     let sizes = measure(table, set, &mut counts);

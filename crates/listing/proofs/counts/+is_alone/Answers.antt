@@ -2,48 +2,48 @@ use Rattle.std.proofs.Common.{ℕ, ◌-◌, ◌^◌, ◌<◌, ◌≤◌, Bool, t
 use Rattle.listing.specs.Counts.{next}
 use Rattle.listing.proofs.Marking.{next_below, alone_none, alone_absent, alone_refused, alone_wanted}
 use Rattle.listing.proofs.counts.+is_alone.Goals as goal
-use Rattle.listing.proofs.counts.+is_alone.Goals.{After-word-at}
+use Rattle.listing.proofs.counts.+is_alone.Goals.{After-word_at}
 
 pub returns-then-n-eq0 : goal.returns-then-n-eq0
 returns-then-n-eq0 t c =
     let p = c.args.product in
-    c.is-one.ensures ∙ alone_none c.args.n c.args.counts.now c.args.prefix p.named p.sign c.if-n-eq0.true
+    c.is_one.ensures ∙ alone_none c.args.n c.args.counts.now c.args.prefix p.named p.sign c.if-n-eq0.true
 
 -- the next call has one option less, and a longer prefix
-next_turn : (t : ℕ) (c : goal.After-word-at t) (b : Bool) → (c.args.n - 1 < t) × ((c.args.n - 1 ≤ 12) × (next c.args.prefix b < 2 ^ (12 - (c.args.n - 1))))
+next_turn : (t : ℕ) (c : goal.After-word_at t) (b : Bool) → (c.args.n - 1 < t) × ((c.args.n - 1 ≤ 12) × (next c.args.prefix b < 2 ^ (12 - (c.args.n - 1))))
 next_turn t c b = (
   omega (arith, c.decreases, c.if-n-eq0.false),
   (omega (arith, c.requires.few), next_below c.args.n c.args.prefix b c.requires.few c.if-n-eq0.false c.requires.prefix),
 )
 
-pub is-alone-requires : goal.is-alone-requires
-is-alone-requires t c = let turn = next_turn t (goal.at.is-alone-requires t c).After-word-at false in (turn.0, (c.requires.room, turn.1))
+pub is_alone-requires : goal.is_alone-requires
+is_alone-requires t c = let turn = next_turn t (goal.at.is_alone-requires t c).After-word_at false in (turn.0, (c.requires.room, turn.1))
 
-pub is-alone-requires-in-Wanted : goal.is-alone-requires-in-Wanted
-is-alone-requires-in-Wanted t c = let turn = next_turn t (goal.at.is-alone-requires-in-Wanted t c).After-word-at true in (turn.0, (c.requires.room, turn.1))
+pub is_alone-requires-in-Wanted : goal.is_alone-requires-in-Wanted
+is_alone-requires-in-Wanted t c = let turn = next_turn t (goal.at.is_alone-requires-in-Wanted t c).After-word_at true in (turn.0, (c.requires.room, turn.1))
 
-pub is-alone-requires-in-Absent : goal.is-alone-requires-in-Absent
-is-alone-requires-in-Absent t c = let turn = next_turn t (goal.at.is-alone-requires-in-Absent t c).After-word-at false in (turn.0, (c.requires.room, turn.1))
+pub is_alone-requires-in-Absent : goal.is_alone-requires-in-Absent
+is_alone-requires-in-Absent t c = let turn = next_turn t (goal.at.is_alone-requires-in-Absent t c).After-word_at false in (turn.0, (c.requires.room, turn.1))
 
-pub is-alone-requires-in-Absent-2 : goal.is-alone-requires-in-Absent-2
-is-alone-requires-in-Absent-2 t c = let turn = next_turn t (goal.at.is-alone-requires-in-Absent-2 t c).After-word-at true in (turn.0, (c.requires.room, turn.1))
+pub is_alone-requires-in-Absent-2 : goal.is_alone-requires-in-Absent-2
+is_alone-requires-in-Absent-2 t c = let turn = next_turn t (goal.at.is_alone-requires-in-Absent-2 t c).After-word_at true in (turn.0, (c.requires.room, turn.1))
 
 pub returns-in-Refused : goal.returns-in-Refused
 returns-in-Refused t c =
     let p = c.args.product in
-    alone_refused c.args.n p.named p.sign c.if-n-eq0.false c.args.counts.now c.args.prefix c.is-alone.result c.in-Refused.ensures c.is-alone.ensures
+    alone_refused c.args.n p.named p.sign c.if-n-eq0.false c.args.counts.now c.args.prefix c.is_alone.result c.in-Refused.ensures c.is_alone.ensures
 
 pub returns-in-Wanted : goal.returns-in-Wanted
 returns-in-Wanted t c =
     let p = c.args.product in
-    alone_wanted c.args.n p.named p.sign c.if-n-eq0.false c.args.counts.now c.args.prefix c.is-alone-in-Wanted.result c.in-Wanted.ensures c.is-alone-in-Wanted.ensures
+    alone_wanted c.args.n p.named p.sign c.if-n-eq0.false c.args.counts.now c.args.prefix c.is_alone-in-Wanted.result c.in-Wanted.ensures c.is_alone-in-Wanted.ensures
 
-pub returns-then-is-alone : goal.returns-then-is-alone
-returns-then-is-alone t c =
+pub returns-then-is_alone : goal.returns-then-is_alone
+returns-then-is_alone t c =
     let p = c.args.product in
-    alone_absent c.args.n p.named p.sign c.if-n-eq0.false c.args.counts.now c.args.prefix true true _ c.in-Absent.ensures c.if-is-alone.ensures refl refl
+    alone_absent c.args.n p.named p.sign c.if-n-eq0.false c.args.counts.now c.args.prefix true true _ c.in-Absent.ensures c.if-is_alone.ensures refl refl
 
-pub returns-else-is-alone : goal.returns-else-is-alone
-returns-else-is-alone t c =
+pub returns-else-is_alone : goal.returns-else-is_alone
+returns-else-is_alone t c =
     let p = c.args.product in
-    alone_absent c.args.n p.named p.sign c.if-n-eq0.false c.args.counts.now c.args.prefix c.is-alone-in-Absent-2.result false c.is-alone-in-Absent-2.result c.in-Absent.ensures c.if-is-alone.ensures c.is-alone-in-Absent-2.ensures refl
+    alone_absent c.args.n p.named p.sign c.if-n-eq0.false c.args.counts.now c.args.prefix c.is_alone-in-Absent-2.result false c.is_alone-in-Absent-2.result c.in-Absent.ensures c.if-is_alone.ensures c.is_alone-in-Absent-2.ensures refl

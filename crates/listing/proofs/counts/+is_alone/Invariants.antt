@@ -1,4 +1,4 @@
 use Rattle.listing.proofs.counts.+is_alone.Given as goal
 
-abbrev pub decreases-is-alone : goal.decreases-is-alone
-decreases-is-alone l = l.n
+abbrev pub decreases-is_alone : goal.decreases-is_alone
+decreases-is_alone l = l.n

@@ -4,4 +4,4 @@ use Rattle.listing.proofs.counts.is_essential.Goals as goal
 
 pub returns : goal.returns
 unfolding words_of alone_of
-returns c = c.is-alone.ensures
+returns c = c.is_alone.ensures

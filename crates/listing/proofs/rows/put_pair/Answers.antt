@@ -2,4 +2,4 @@ use Rattle.product.proofs.Putting.{put_two}
 use Rattle.listing.proofs.rows.put_pair.Goals as goal
 
 pub returns : goal.returns
-returns c = put_two _ _ _ _ _ _ _ _ c.put-byte-next.ensures c.put-byte.ensures
+returns c = put_two _ _ _ _ _ _ _ _ c.put_byte-next.ensures c.put_byte.ensures
