@@ -39,11 +39,11 @@ pub fn write_card<T: NodeTable>(
     title: &[u8],
     out: &mut [u8],
 ) -> Result<usize, ListFault>
-    requires sound { Sound (limit table.now) (nodes table.now) }
-    requires issued { Issued (nodes table.now) set }
-    requires primes { (f : Condition 12) × ArePrimes 12 0 f (meaning (nodes table.now) set) }
+    requires sound { Sound (T.limit table.now) (T.nodes table.now) }
+    requires issued { Issued (T.nodes table.now) set }
+    requires primes { (f : Condition 12) × ArePrimes 12 0 f (meaning (T.nodes table.now) set) }
     requires short { length title.now ≤ 4096 }
-    ensures { CardWritten title.now (meaning (nodes table.now) set) result out.old out.new }
+    ensures { CardWritten title.now (meaning (T.nodes table.now) set) result out.old out.new }
 {
     let head = title.len() + 8;
     // Where the heading alone does not fit, the list is lent nothing and is refused.

@@ -29,15 +29,15 @@ pub(crate) fn run_use<T: NodeTable, C: Cache>(
     text: &[u8],
     sum: u16,
 ) -> Result<u16, TableFault>
-    requires sound { Sound (limit table.old) (nodes table.old) }
-    requires right { Right (nodes table.old) (holds cache.old) }
+    requires sound { Sound (T.limit table.old) (T.nodes table.old) }
+    requires right { Right (T.nodes table.old) (C.holds cache.old) }
     requires formula { IsFormula text.now }
-    requires sum { Issued (nodes table.old) sum }
-    ensures size { limit table.new ≡ limit table.old }
-    ensures rest { rest table.new ≡ rest table.old }
-    ensures sound { Sound (limit table.new) (nodes table.new) }
-    ensures right { Right (nodes table.new) (holds cache.new) }
-    ensures value { (t : Tree) → Derives 32 1 text.now t → Summed (limit table.old) (meaning (nodes table.old) sum) (nodes table.old) (t ∷ []) result (nodes table.new) }
+    requires sum { Issued (T.nodes table.old) sum }
+    ensures size { T.limit table.new ≡ T.limit table.old }
+    ensures rest { T.rest table.new ≡ T.rest table.old }
+    ensures sound { Sound (T.limit table.new) (T.nodes table.new) }
+    ensures right { Right (T.nodes table.new) (C.holds cache.new) }
+    ensures value { (t : Tree) → Derives 32 1 text.now t → Summed (T.limit table.old) (meaning (T.nodes table.old) sum) (T.nodes table.old) (t ∷ []) result (T.nodes table.new) }
 {
     let f = parsed(text);
     let h = run_formula(table, cache, &f)?;

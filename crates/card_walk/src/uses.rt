@@ -18,15 +18,15 @@ pub fn run_uses<T: NodeTable, C: Cache>(
     text: &[u8],
     uses: usize,
 ) -> Result<u16, TableFault>
-    requires sound { Sound (limit table.old) (nodes table.old) }
-    requires right { Right (nodes table.old) (holds cache.old) }
+    requires sound { Sound (T.limit table.old) (T.nodes table.old) }
+    requires right { Right (T.nodes table.old) (C.holds cache.old) }
     requires short { length text.now ≤ 4096 }
     requires card { (fs : List (List ℕ)) × (ts : List Tree) × Tail fs (drop uses text.now) × TreesOf fs ts }
-    ensures size { limit table.new ≡ limit table.old }
-    ensures rest { rest table.new ≡ rest table.old }
-    ensures sound { Sound (limit table.new) (nodes table.new) }
-    ensures right { Right (nodes table.new) (holds cache.new) }
-    ensures value { (fs : List (List ℕ)) (ts : List Tree) → Tail fs (drop uses text.now) → TreesOf fs ts → Summed (limit table.old) never (nodes table.old) ts result (nodes table.new) }
+    ensures size { T.limit table.new ≡ T.limit table.old }
+    ensures rest { T.rest table.new ≡ T.rest table.old }
+    ensures sound { Sound (T.limit table.new) (T.nodes table.new) }
+    ensures right { Right (T.nodes table.new) (C.holds cache.new) }
+    ensures value { (fs : List (List ℕ)) (ts : List Tree) → Tail fs (drop uses text.now) → TreesOf fs ts → Summed (T.limit table.old) never (T.nodes table.old) ts result (T.nodes table.new) }
 {
     let mut sum = 0;
     let mut at = uses;

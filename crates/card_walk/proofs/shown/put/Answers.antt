@@ -8,10 +8,10 @@ returns c =
     let bytes = c.args.bytes.now in
     let old = c.args.out.now in
     let end = at + length bytes in
-    let copied = c.copy-from-slice.ensures.after in
+    let copied = c.copy_from_slice.ensures.after in
     let long = ap length copied in
     record {
       value = refl;
-      wrote = take-put_mid at (end - at) old c.copy-from-slice.new.self end (omega (arith, long)) (omega (arith, c.requires)) ∙ ap (λ z. take at old ++ z) copied;
-      kept = drop-put_mid at (end - at) old c.copy-from-slice.new.self end (omega arith) (omega (arith, c.requires)) (omega (arith, long));
+      wrote = take-put_mid at (end - at) old c.copy_from_slice.new.self end (omega (arith, long)) (omega (arith, c.requires)) ∙ ap (λ z. take at old ++ z) copied;
+      kept = drop-put_mid at (end - at) old c.copy_from_slice.new.self end (omega arith) (omega (arith, c.requires)) (omega (arith, long));
     }

@@ -4,20 +4,20 @@ use Rattle.std.proofs.lemmas.Result.{err_from_is_err_and}
 use Rattle.card_walk.proofs.Showing.{card_refused, head_fits, card_written}
 use Rattle.card_walk.proofs.shown.write_card.Goals as goal
 
-pub returns-in-err-written : goal.returns-in-err-written
-returns-in-err-written g c =
-    let p = err_from_is_err_and c.from-residual.result c.from-residual.ensures.1 in
-    card_refused c.args.title.now c.args.out.now _ c.min-from.result c.min-from.ensures c.in-err-written.field-0.0 _ _ _ (p.1 ∙ ap Err p.2) c.in-err-written.ensures refl
+pub returns-in_err-written : goal.returns-in_err-written
+returns-in_err-written g c =
+    let p = err_from_is_err_and c.from_residual.result c.from_residual.ensures.1 in
+    card_refused c.args.title.now c.args.out.now _ c.min-from.result c.min-from.ensures c.in_err-written.field-0.0 _ _ _ (p.1 ∙ ap Err p.2) c.in_err-written.ensures refl
 
-pub put-heading-requires : goal.put-heading-requires
-put-heading-requires g c =
+pub put_heading-requires : goal.put_heading-requires
+put_heading-requires g c =
     let p = c.requires.primes in
     let from = c.min-from.result in
     let old = c.args.out.now in
-    let fits = head_fits c.args.title.now old _ from c.min-from.ensures p.0 p.1 c.in-ok-written.written _ c.in-ok-written.ensures in
-    omega (arith, fits, same_len_mid from (length old - from) old c.write-list.new.out c.write-list.auto.out)
+    let fits = head_fits c.args.title.now old _ from c.min-from.ensures p.0 p.1 c.in_ok-written.written _ c.in_ok-written.ensures in
+    omega (arith, fits, same_len_mid from (length old - from) old c.write_list.new.out c.write_list.auto.out)
 
 pub returns : goal.returns
 returns g c =
     let p = c.requires.primes in
-    card_written c.args.title.now c.args.out.now _ c.min-from.result c.min-from.ensures p.0 p.1 c.in-ok-written.written _ c.in-ok-written.ensures _ _ c.put-heading.ensures
+    card_written c.args.title.now c.args.out.now _ c.min-from.result c.min-from.ensures p.0 p.1 c.in_ok-written.written _ c.in_ok-written.ensures _ _ c.put_heading.ensures

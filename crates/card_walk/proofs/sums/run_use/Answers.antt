@@ -6,16 +6,16 @@ use Rattle.formula.specs.Grammar.{postfix}
 use Rattle.card_walk.proofs.Adding.{part_refused, added}
 use Rattle.card_walk.proofs.sums.run_use.Goals as goal
 
-pub run-formula-requires : goal.run-formula-requires
-run-formula-requires g c =
+pub run_formula-requires : goal.run_formula-requires
+run_formula-requires g c =
     let q = c.parsed-f.ensures in
     record { sound = c.requires.sound; right = c.requires.right; formula = (c.args.text.now, q.tree, q.derived, q.steps) }
 
-pub returns-in-err-h : goal.returns-in-err-h
-returns-in-err-h g c =
+pub returns-in_err-h : goal.returns-in_err-h
+returns-in_err-h g c =
     let q = c.parsed-f.ensures in
-    let made = c.in-err-h.ensures in
-    let p = err_from_is_err_and c.from-residual.result c.from-residual.ensures.1 in
+    let made = c.in_err-h.ensures in
+    let p = err_from_is_err_and c.from_residual.result c.from_residual.ensures.1 in
     record {
       size = made.size;
       rest = made.rest;
@@ -27,7 +27,7 @@ returns-in-err-h g c =
 pub apply-requires : goal.apply-requires
 apply-requires g c =
     let q = c.parsed-f.ensures in
-    let made = c.in-ok-h.ensures in
+    let made = c.in_ok-h.ensures in
     let b = (made.value q.tree q.steps).outcome in
     record {
       sound = made.sound;
@@ -39,7 +39,7 @@ apply-requires g c =
 pub returns : goal.returns
 returns g c =
     let q = c.parsed-f.ensures in
-    let made = c.in-ok-h.ensures in
+    let made = c.in_ok-h.ensures in
     let w = c.apply.ensures in
     record {
       size = w.size ∙ made.size;
