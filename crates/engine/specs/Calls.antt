@@ -48,7 +48,7 @@ Tested C P R = (C × P) ⊎ ((¬ C) × R)
 
 -- a call under a condition C, refused with e where it does not hold
 abbrev pub Guarded : Type 0 → GraphFault → Type 0 → List Node → Result ℕ GraphFault → List Node → Type 0
-Guarded C e P old r new = Tested C P (Rejected e old r new)
+Guarded C e P old r new = (C × P) ⊎ ((¬ C) × Rejected e old r new)
 
 -- k is an option
 abbrev pub IsOption : ℕ → Type 0

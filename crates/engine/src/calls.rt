@@ -17,10 +17,10 @@ use walk::{Cache, DirectCache, Op, apply, make};
 impl<T: NodeTable> Graph<T> {
     // A graph over a table, whose nodes are taken out.
     pub fn new(mut table: T) -> Self
-        ensures nodes { nodes result.table ≡ [] }
-        ensures size { limit result.table ≡ limit table }
-        ensures rest { rest result.table ≡ rest table }
-        ensures memory { memory result.table ≡ content (limit result.table) (nodes result.table) (rest result.table) }
+        ensures nodes { T.nodes result.table ≡ [] }
+        ensures size { T.limit result.table ≡ T.limit table }
+        ensures rest { T.rest result.table ≡ T.rest table }
+        ensures memory { T.memory result.table ≡ T.content (T.limit result.table) (T.nodes result.table) (T.rest result.table) }
     {
         table.truncate(0);
         Graph {
@@ -38,28 +38,28 @@ impl<T: NodeTable> Graph<T> {
     }
 
     pub fn size(&self) -> u16
-        ensures { result ≡ limit self.now.table }
+        ensures { result ≡ T.limit self.now.table }
     {
         self.table.size()
     }
 
     pub fn len(&self) -> u16
-        ensures value { result ≡ length (nodes self.now.table) }
-        ensures sound { Sound (limit self.now.table) (nodes self.now.table) }
-        ensures memory { memory self.now.table ≡ content (limit self.now.table) (nodes self.now.table) (rest self.now.table) }
+        ensures value { result ≡ length (T.nodes self.now.table) }
+        ensures sound { Sound (T.limit self.now.table) (T.nodes self.now.table) }
+        ensures memory { T.memory self.now.table ≡ T.content (T.limit self.now.table) (T.nodes self.now.table) (T.rest self.now.table) }
     {
         self.table.len()
     }
 
     pub fn get(&self, handle: u16) -> Result<Node, TableFault>
-        ensures { Got (limit self.now.table) (nodes self.now.table) handle result }
+        ensures { Got (T.limit self.now.table) (T.nodes self.now.table) handle result }
     {
         self.table.get(handle)
     }
 
     // Whether a handle is issued; refused with 9 where it is not.
     pub(crate) fn issued(&self, handle: u16) -> Result<(), TableFault>
-        ensures { MatchResult result (λ _. Issued (nodes self.now.table) handle) (λ e. (Issued (nodes self.now.table) handle → ⊥) × (e ≡ fault NotIssued (limit self.now.table))) }
+        ensures { MatchResult result (λ _. Issued (T.nodes self.now.table) handle) (λ e. (Issued (T.nodes self.now.table) handle → ⊥) × (e ≡ fault NotIssued (T.limit self.now.table))) }
     {
         if handle < 2 || handle - 2 < self.len() {
             return Ok(());
@@ -73,8 +73,8 @@ impl<T: NodeTable> Graph<T> {
 
     // Whether an issued handle means a condition; refused with 10 where it does not.
     pub(crate) fn condition(&self, f: u16) -> Result<(), GraphFault>
-        requires { Issued (nodes self.now.table) f }
-        ensures { MatchResult result (λ _. IsCondition (nodes self.now.table) f) (λ e. (IsCondition (nodes self.now.table) f → ⊥) × (e ≡ NotCondition)) }
+        requires { Issued (T.nodes self.now.table) f }
+        ensures { MatchResult result (λ _. IsCondition (T.nodes self.now.table) f) (λ e. (IsCondition (T.nodes self.now.table) f → ⊥) × (e ≡ NotCondition)) }
     {
         let _ = self.len();
         if signs_only(&self.table, f) {
@@ -87,7 +87,7 @@ impl<T: NodeTable> Graph<T> {
     // A handle as it is; that the memory holds what it should is what `len` says.
     fn settled(&self, handle: u16) -> u16
         ensures same { result ≡ handle }
-        ensures memory { memory self.now.table ≡ content (limit self.now.table) (nodes self.now.table) (rest self.now.table) }
+        ensures memory { T.memory self.now.table ≡ T.content (T.limit self.now.table) (T.nodes self.now.table) (T.rest self.now.table) }
     {
         let _ = self.len();
         handle
@@ -99,10 +99,10 @@ impl<T: NodeTable> Graph<T> {
         held: u16,
         walked: Result<u16, TableFault>,
     ) -> Result<u16, GraphFault>
-        ensures ended { Ended held walked (nodes self.old.table) result (nodes self.new.table) }
-        ensures size { limit self.new.table ≡ limit self.old.table }
-        ensures rest { rest self.new.table ≡ rest self.old.table }
-        ensures memory { memory self.new.table ≡ content (limit self.new.table) (nodes self.new.table) (rest self.new.table) }
+        ensures ended { Ended held walked (T.nodes self.old.table) result (T.nodes self.new.table) }
+        ensures size { T.limit self.new.table ≡ T.limit self.old.table }
+        ensures rest { T.rest self.new.table ≡ T.rest self.old.table }
+        ensures memory { T.memory self.new.table ≡ T.content (T.limit self.new.table) (T.nodes self.new.table) (T.rest self.new.table) }
     {
         match walked {
             Ok(h) => Ok(self.settled(h)),
@@ -115,10 +115,10 @@ impl<T: NodeTable> Graph<T> {
 
     // The sign of option k.
     pub fn option(&mut self, k: u8) -> Result<u16, GraphFault>
-        ensures out { OptionOut (limit self.old.table) k (nodes self.old.table) result (nodes self.new.table) }
-        ensures size { limit self.new.table ≡ limit self.old.table }
-        ensures rest { rest self.new.table ≡ rest self.old.table }
-        ensures memory { memory self.new.table ≡ content (limit self.new.table) (nodes self.new.table) (rest self.new.table) }
+        ensures out { OptionOut (T.limit self.old.table) k (T.nodes self.old.table) result (T.nodes self.new.table) }
+        ensures size { T.limit self.new.table ≡ T.limit self.old.table }
+        ensures rest { T.rest self.new.table ≡ T.rest self.old.table }
+        ensures memory { T.memory self.new.table ≡ T.content (T.limit self.new.table) (T.nodes self.new.table) (T.rest self.new.table) }
     {
         let held = self.len();
         if k < 1 || k > 12 {
@@ -130,10 +130,10 @@ impl<T: NodeTable> Graph<T> {
 
     // Yes where f is no.
     pub fn not(&mut self, f: u16) -> Result<u16, GraphFault>
-        ensures out { NotOut (limit self.old.table) f (nodes self.old.table) result (nodes self.new.table) }
-        ensures size { limit self.new.table ≡ limit self.old.table }
-        ensures rest { rest self.new.table ≡ rest self.old.table }
-        ensures memory { memory self.new.table ≡ content (limit self.new.table) (nodes self.new.table) (rest self.new.table) }
+        ensures out { NotOut (T.limit self.old.table) f (T.nodes self.old.table) result (T.nodes self.new.table) }
+        ensures size { T.limit self.new.table ≡ T.limit self.old.table }
+        ensures rest { T.rest self.new.table ≡ T.rest self.old.table }
+        ensures memory { T.memory self.new.table ≡ T.content (T.limit self.new.table) (T.nodes self.new.table) (T.rest self.new.table) }
     {
         let held = self.len();
         self.issued(f)?;

@@ -9,10 +9,10 @@ use walk::{Cache, restrict};
 impl<T: NodeTable> Graph<T> {
     // f with the sign of option k set to a value.
     pub fn restrict(&mut self, f: u16, k: u8, value: bool) -> Result<u16, GraphFault>
-        ensures out { RestrictOut (limit self.old.table) f k value (nodes self.old.table) result (nodes self.new.table) }
-        ensures size { limit self.new.table ≡ limit self.old.table }
-        ensures rest { rest self.new.table ≡ rest self.old.table }
-        ensures memory { memory self.new.table ≡ content (limit self.new.table) (nodes self.new.table) (rest self.new.table) }
+        ensures out { RestrictOut (T.limit self.old.table) f k value (T.nodes self.old.table) result (T.nodes self.new.table) }
+        ensures size { T.limit self.new.table ≡ T.limit self.old.table }
+        ensures rest { T.rest self.new.table ≡ T.rest self.old.table }
+        ensures memory { T.memory self.new.table ≡ T.content (T.limit self.new.table) (T.nodes self.new.table) (T.rest self.new.table) }
     {
         let held = self.len();
         if k < 1 || k > 12 {

@@ -20,10 +20,10 @@ use walk::Cache;
 impl<T: NodeTable> Graph<T> {
     // The or of two conditions.
     fn sum(&mut self, f: u16, g: u16) -> Result<u16, GraphFault>
-        ensures out { SumOut (limit self.old.table) f g (nodes self.old.table) result (nodes self.new.table) }
-        ensures size { limit self.new.table ≡ limit self.old.table }
-        ensures rest { rest self.new.table ≡ rest self.old.table }
-        ensures memory { memory self.new.table ≡ content (limit self.new.table) (nodes self.new.table) (rest self.new.table) }
+        ensures out { SumOut (T.limit self.old.table) f g (T.nodes self.old.table) result (T.nodes self.new.table) }
+        ensures size { T.limit self.new.table ≡ T.limit self.old.table }
+        ensures rest { T.rest self.new.table ≡ T.rest self.old.table }
+        ensures memory { T.memory self.new.table ≡ T.content (T.limit self.new.table) (T.nodes self.new.table) (T.rest self.new.table) }
     {
         let _ = self.len();
         self.issued(f)?;
@@ -37,10 +37,10 @@ impl<T: NodeTable> Graph<T> {
     pub(crate) fn sum_uses(&mut self, text: &[u8], uses: usize) -> Result<u16, GraphFault>
         requires short { length text.now ≤ 4096 }
         requires card { (fs : List (List ℕ)) × (ts : List Tree) × Tail fs (drop uses text.now) × TreesOf fs ts }
-        ensures out { (fs : List (List ℕ)) (ts : List Tree) → Tail fs (drop uses text.now) → TreesOf fs ts → Made (limit self.old.table) (sums ts) (some_of ts) (nodes self.old.table) result (nodes self.new.table) }
-        ensures size { limit self.new.table ≡ limit self.old.table }
-        ensures rest { rest self.new.table ≡ rest self.old.table }
-        ensures memory { memory self.new.table ≡ content (limit self.new.table) (nodes self.new.table) (rest self.new.table) }
+        ensures out { (fs : List (List ℕ)) (ts : List Tree) → Tail fs (drop uses text.now) → TreesOf fs ts → Made (T.limit self.old.table) (sums ts) (some_of ts) (T.nodes self.old.table) result (T.nodes self.new.table) }
+        ensures size { T.limit self.new.table ≡ T.limit self.old.table }
+        ensures rest { T.rest self.new.table ≡ T.rest self.old.table }
+        ensures memory { T.memory self.new.table ≡ T.content (T.limit self.new.table) (T.nodes self.new.table) (T.rest self.new.table) }
     {
         let held = self.len();
         self.cache.clear();
@@ -51,10 +51,10 @@ impl<T: NodeTable> Graph<T> {
 
 // Adds a condition to a draft; refused, the draft is as it was.
 pub fn add<T: NodeTable>(graph: &mut Graph<T>, draft: &mut Draft, f: u16) -> Result<(), CardFault>
-    ensures out { AddOut (limit graph.old.table) f (nodes graph.old.table) draft.old.condition result (nodes graph.new.table) draft.new.condition }
-    ensures size { limit graph.new.table ≡ limit graph.old.table }
-    ensures rest { rest graph.new.table ≡ rest graph.old.table }
-    ensures memory { memory graph.new.table ≡ content (limit graph.new.table) (nodes graph.new.table) (rest graph.new.table) }
+    ensures out { AddOut (T.limit graph.old.table) f (T.nodes graph.old.table) draft.old.condition result (T.nodes graph.new.table) draft.new.condition }
+    ensures size { T.limit graph.new.table ≡ T.limit graph.old.table }
+    ensures rest { T.rest graph.new.table ≡ T.rest graph.old.table }
+    ensures memory { T.memory graph.new.table ≡ T.content (T.limit graph.new.table) (T.nodes graph.new.table) (T.rest graph.new.table) }
 {
     draft.condition = graph.sum(draft.condition, f)?;
     Ok(())
@@ -62,10 +62,10 @@ pub fn add<T: NodeTable>(graph: &mut Graph<T>, draft: &mut Draft, f: u16) -> Res
 
 // The closed card of a text: its condition is the sum of its formulas, made as one call.
 pub fn read<T: NodeTable>(graph: &mut Graph<T>, text: &[u8]) -> Result<Closed, CardFault>
-    ensures out { ReadOut (limit graph.old.table) text.now (nodes graph.old.table) result (nodes graph.new.table) }
-    ensures size { limit graph.new.table ≡ limit graph.old.table }
-    ensures rest { rest graph.new.table ≡ rest graph.old.table }
-    ensures memory { memory graph.new.table ≡ content (limit graph.new.table) (nodes graph.new.table) (rest graph.new.table) }
+    ensures out { ReadOut (T.limit graph.old.table) text.now (T.nodes graph.old.table) result (T.nodes graph.new.table) }
+    ensures size { T.limit graph.new.table ≡ T.limit graph.old.table }
+    ensures rest { T.rest graph.new.table ≡ T.rest graph.old.table }
+    ensures memory { T.memory graph.new.table ≡ T.content (T.limit graph.new.table) (T.nodes graph.new.table) (T.rest graph.new.table) }
 {
     let _ = graph.len();
     let outline = read_card(text)?;

@@ -11,10 +11,10 @@ use walk::Cache;
 impl<T: NodeTable> Graph<T> {
     // A formula's condition; every part of the formula is made too.
     pub fn formula(&mut self, text: &[u8]) -> Result<u16, GraphFault>
-        ensures out { FormulaOut (limit self.old.table) text.now (nodes self.old.table) result (nodes self.new.table) }
-        ensures size { limit self.new.table ≡ limit self.old.table }
-        ensures rest { rest self.new.table ≡ rest self.old.table }
-        ensures memory { memory self.new.table ≡ content (limit self.new.table) (nodes self.new.table) (rest self.new.table) }
+        ensures out { FormulaOut (T.limit self.old.table) text.now (T.nodes self.old.table) result (T.nodes self.new.table) }
+        ensures size { T.limit self.new.table ≡ T.limit self.old.table }
+        ensures rest { T.rest self.new.table ≡ T.rest self.old.table }
+        ensures memory { T.memory self.new.table ≡ T.content (T.limit self.new.table) (T.nodes self.new.table) (T.rest self.new.table) }
     {
         let held = self.len();
         let mut f = Formula::new();

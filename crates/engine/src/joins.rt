@@ -13,10 +13,10 @@ use walk::{Cache, apply};
 impl<T: NodeTable> Graph<T> {
     // The handle of f and g joined by an operator; every operator has its own walk.
     pub(crate) fn combine(&mut self, op: Operator, f: u16, g: u16) -> Result<u16, GraphFault>
-        ensures out { CombineOut (limit self.old.table) op f g (nodes self.old.table) result (nodes self.new.table) }
-        ensures size { limit self.new.table ≡ limit self.old.table }
-        ensures rest { rest self.new.table ≡ rest self.old.table }
-        ensures memory { memory self.new.table ≡ content (limit self.new.table) (nodes self.new.table) (rest self.new.table) }
+        ensures out { CombineOut (T.limit self.old.table) op f g (T.nodes self.old.table) result (T.nodes self.new.table) }
+        ensures size { T.limit self.new.table ≡ T.limit self.old.table }
+        ensures rest { T.rest self.new.table ≡ T.rest self.old.table }
+        ensures memory { T.memory self.new.table ≡ T.content (T.limit self.new.table) (T.nodes self.new.table) (T.rest self.new.table) }
     {
         let held = self.len();
         self.issued(f)?;
@@ -29,50 +29,50 @@ impl<T: NodeTable> Graph<T> {
 
     // Yes where both are.
     pub fn and(&mut self, f: u16, g: u16) -> Result<u16, GraphFault>
-        ensures out { CombineOut (limit self.old.table) And f g (nodes self.old.table) result (nodes self.new.table) }
-        ensures size { limit self.new.table ≡ limit self.old.table }
-        ensures rest { rest self.new.table ≡ rest self.old.table }
-        ensures memory { memory self.new.table ≡ content (limit self.new.table) (nodes self.new.table) (rest self.new.table) }
+        ensures out { CombineOut (T.limit self.old.table) And f g (T.nodes self.old.table) result (T.nodes self.new.table) }
+        ensures size { T.limit self.new.table ≡ T.limit self.old.table }
+        ensures rest { T.rest self.new.table ≡ T.rest self.old.table }
+        ensures memory { T.memory self.new.table ≡ T.content (T.limit self.new.table) (T.nodes self.new.table) (T.rest self.new.table) }
     {
         self.combine(Operator::And, f, g)
     }
 
     // Yes where one of them is.
     pub fn or(&mut self, f: u16, g: u16) -> Result<u16, GraphFault>
-        ensures out { CombineOut (limit self.old.table) Or f g (nodes self.old.table) result (nodes self.new.table) }
-        ensures size { limit self.new.table ≡ limit self.old.table }
-        ensures rest { rest self.new.table ≡ rest self.old.table }
-        ensures memory { memory self.new.table ≡ content (limit self.new.table) (nodes self.new.table) (rest self.new.table) }
+        ensures out { CombineOut (T.limit self.old.table) Or f g (T.nodes self.old.table) result (T.nodes self.new.table) }
+        ensures size { T.limit self.new.table ≡ T.limit self.old.table }
+        ensures rest { T.rest self.new.table ≡ T.rest self.old.table }
+        ensures memory { T.memory self.new.table ≡ T.content (T.limit self.new.table) (T.nodes self.new.table) (T.rest self.new.table) }
     {
         self.combine(Operator::Or, f, g)
     }
 
     // Yes where they differ.
     pub fn xor(&mut self, f: u16, g: u16) -> Result<u16, GraphFault>
-        ensures out { CombineOut (limit self.old.table) Xor f g (nodes self.old.table) result (nodes self.new.table) }
-        ensures size { limit self.new.table ≡ limit self.old.table }
-        ensures rest { rest self.new.table ≡ rest self.old.table }
-        ensures memory { memory self.new.table ≡ content (limit self.new.table) (nodes self.new.table) (rest self.new.table) }
+        ensures out { CombineOut (T.limit self.old.table) Xor f g (T.nodes self.old.table) result (T.nodes self.new.table) }
+        ensures size { T.limit self.new.table ≡ T.limit self.old.table }
+        ensures rest { T.rest self.new.table ≡ T.rest self.old.table }
+        ensures memory { T.memory self.new.table ≡ T.content (T.limit self.new.table) (T.nodes self.new.table) (T.rest self.new.table) }
     {
         self.combine(Operator::Xor, f, g)
     }
 
     // Yes where f is no or g is yes.
     pub fn implies(&mut self, f: u16, g: u16) -> Result<u16, GraphFault>
-        ensures out { CombineOut (limit self.old.table) Implies f g (nodes self.old.table) result (nodes self.new.table) }
-        ensures size { limit self.new.table ≡ limit self.old.table }
-        ensures rest { rest self.new.table ≡ rest self.old.table }
-        ensures memory { memory self.new.table ≡ content (limit self.new.table) (nodes self.new.table) (rest self.new.table) }
+        ensures out { CombineOut (T.limit self.old.table) Implies f g (T.nodes self.old.table) result (T.nodes self.new.table) }
+        ensures size { T.limit self.new.table ≡ T.limit self.old.table }
+        ensures rest { T.rest self.new.table ≡ T.rest self.old.table }
+        ensures memory { T.memory self.new.table ≡ T.content (T.limit self.new.table) (T.nodes self.new.table) (T.rest self.new.table) }
     {
         self.combine(Operator::Implies, f, g)
     }
 
     // Yes where they agree.
     pub fn iff(&mut self, f: u16, g: u16) -> Result<u16, GraphFault>
-        ensures out { CombineOut (limit self.old.table) Iff f g (nodes self.old.table) result (nodes self.new.table) }
-        ensures size { limit self.new.table ≡ limit self.old.table }
-        ensures rest { rest self.new.table ≡ rest self.old.table }
-        ensures memory { memory self.new.table ≡ content (limit self.new.table) (nodes self.new.table) (rest self.new.table) }
+        ensures out { CombineOut (T.limit self.old.table) Iff f g (T.nodes self.old.table) result (T.nodes self.new.table) }
+        ensures size { T.limit self.new.table ≡ T.limit self.old.table }
+        ensures rest { T.rest self.new.table ≡ T.rest self.old.table }
+        ensures memory { T.memory self.new.table ≡ T.content (T.limit self.new.table) (T.nodes self.new.table) (T.rest self.new.table) }
     {
         self.combine(Operator::Iff, f, g)
     }

@@ -10,10 +10,10 @@ use walk::Cache;
 impl<T: NodeTable> Graph<T> {
     // The set of the primes of a condition.
     pub fn primes(&mut self, f: u16) -> Result<u16, GraphFault>
-        ensures out { PrimesOut (limit self.old.table) f (nodes self.old.table) result (nodes self.new.table) }
-        ensures size { limit self.new.table ≡ limit self.old.table }
-        ensures rest { rest self.new.table ≡ rest self.old.table }
-        ensures memory { memory self.new.table ≡ content (limit self.new.table) (nodes self.new.table) (rest self.new.table) }
+        ensures out { PrimesOut (T.limit self.old.table) f (T.nodes self.old.table) result (T.nodes self.new.table) }
+        ensures size { T.limit self.new.table ≡ T.limit self.old.table }
+        ensures rest { T.rest self.new.table ≡ T.rest self.old.table }
+        ensures memory { T.memory self.new.table ≡ T.content (T.limit self.new.table) (T.nodes self.new.table) (T.rest self.new.table) }
     {
         let held = self.len();
         self.issued(f)?;

@@ -14,7 +14,7 @@ use tally_walk::tally_set;
 impl<T: NodeTable> Graph<T> {
     // Whether a set has the product of two masks.
     pub fn contains(&self, set: u16, named: u16, sign: u16) -> Result<bool, GraphFault>
-        ensures { ContainsOut (limit self.now.table) set named sign (nodes self.now.table) result }
+        ensures { ContainsOut (T.limit self.now.table) set named sign (T.nodes self.now.table) result }
     {
         let Ok(product) = Product::new(named, sign) else {
             return Err(GraphFault::NoProduct);
@@ -34,7 +34,7 @@ impl<T: NodeTable> Graph<T> {
         places: &mut [W::Weight],
         answer: &mut W::Weight,
     ) -> Result<(), GraphFault>
-        ensures { TallyOut (model nothing single joins naming) (limit self.now.table) set (nodes self.now.table) result places.old answer.old places.new answer.new }
+        ensures { TallyOut (model W.nothing W.single W.joins W.naming) (T.limit self.now.table) set (T.nodes self.now.table) result places.old answer.old places.new answer.new }
     {
         let held = self.len();
         self.issued(set)?;

@@ -14,10 +14,10 @@ pub fn show<T: NodeTable>(
     text: &[u8],
     out: &mut [u8],
 ) -> Result<usize, CardFault>
-    ensures out { ShowOut (limit graph.old.table) text.now (nodes graph.old.table) out.old result (nodes graph.new.table) out.new }
-    ensures size { limit graph.new.table ≡ limit graph.old.table }
-    ensures rest { rest graph.new.table ≡ rest graph.old.table }
-    ensures memory { memory graph.new.table ≡ content (limit graph.new.table) (nodes graph.new.table) (rest graph.new.table) }
+    ensures out { ShowOut (T.limit graph.old.table) text.now (T.nodes graph.old.table) out.old result (T.nodes graph.new.table) out.new }
+    ensures size { T.limit graph.new.table ≡ T.limit graph.old.table }
+    ensures rest { T.rest graph.new.table ≡ T.rest graph.old.table }
+    ensures memory { T.memory graph.new.table ≡ T.content (T.limit graph.new.table) (T.nodes graph.new.table) (T.rest graph.new.table) }
 {
     let held = graph.len();
     let outline = read_card(text)?;

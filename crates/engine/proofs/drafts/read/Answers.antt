@@ -5,30 +5,30 @@ use Rattle.card_walk.proofs.Trees.{card_trees}
 use Rattle.engine.specs.Cards.{closing}
 use Rattle.engine.proofs.drafts.read.Goals as goal
 
-pub returns-in-err-outline : goal.returns-in-err-outline
-returns-in-err-outline g c =
-    let p = err_from_is_err_and c.from-residual.result c.from-residual.ensures.1 in
+pub returns-in_err-outline : goal.returns-in_err-outline
+returns-in_err-outline g c =
+    let p = err_from_is_err_and c.from_residual.result c.from_residual.ensures.1 in
     record {
-      out = record { outcome = inr (record { fault = _; refused = c.in-err-outline.ensures; is = p.1 ∙ ap Err p.2; kept = refl }) };
+      out = record { outcome = inr (record { fault = _; refused = c.in_err-outline.ensures; is = p.1 ∙ ap Err p.2; kept = refl }) };
       size = refl;
       rest = refl;
       memory = c.len.ensures.memory;
     }
 
-pub sum-uses-requires : goal.sum-uses-requires
-sum-uses-requires g c =
-    let o = c.in-ok-outline.ensures in
+pub sum_uses-requires : goal.sum_uses-requires
+sum_uses-requires g c =
+    let o = c.in_ok-outline.ensures in
     let t = card_trees o.rows o.card.good in
     record { short = o.card.short; card = (formulas o.rows, t.0, o.tail, t.1) }
 
-pub returns-in-err-condition : goal.returns-in-err-condition
-returns-in-err-condition g c =
-    let o = c.in-ok-outline.ensures in
+pub returns-in_err-condition : goal.returns-in_err-condition
+returns-in_err-condition g c =
+    let o = c.in_ok-outline.ensures in
     let t = card_trees o.rows o.card.good in
-    let made = c.sum-uses.ensures in
-    let p = err_from_is_err_and c.from-residual-in-err-condition.result c.from-residual-in-err-condition.ensures.1 in
+    let made = c.sum_uses.ensures in
+    let p = err_from_is_err_and c.from_residual-in_err-condition.result c.from_residual-in_err-condition.ensures.1 in
     record {
-      out = record { outcome = inl (record { rows = o.rows; card = o.card; trees = t.0; are = t.1; answer = c.sum-uses.result; made = made.out (formulas o.rows) t.0 o.tail t.1; is = p.1 ∙ ap Err p.2 ∙ sym (ap closing c.in-err-condition.was) }) };
+      out = record { outcome = inl (record { rows = o.rows; card = o.card; trees = t.0; are = t.1; answer = c.sum_uses.result; made = made.out (formulas o.rows) t.0 o.tail t.1; is = p.1 ∙ ap Err p.2 ∙ sym (ap closing c.in_err-condition.was) }) };
       size = made.size;
       rest = made.rest;
       memory = made.memory;
@@ -36,11 +36,11 @@ returns-in-err-condition g c =
 
 pub returns : goal.returns
 returns g c =
-    let o = c.in-ok-outline.ensures in
+    let o = c.in_ok-outline.ensures in
     let t = card_trees o.rows o.card.good in
-    let made = c.sum-uses.ensures in
+    let made = c.sum_uses.ensures in
     record {
-      out = record { outcome = inl (record { rows = o.rows; card = o.card; trees = t.0; are = t.1; answer = c.sum-uses.result; made = made.out (formulas o.rows) t.0 o.tail t.1; is = sym (ap closing c.in-ok-condition.was) }) };
+      out = record { outcome = inl (record { rows = o.rows; card = o.card; trees = t.0; are = t.1; answer = c.sum_uses.result; made = made.out (formulas o.rows) t.0 o.tail t.1; is = sym (ap closing c.in_ok-condition.was) }) };
       size = made.size;
       rest = made.rest;
       memory = made.memory;

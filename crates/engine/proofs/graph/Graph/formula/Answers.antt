@@ -2,9 +2,9 @@ use Rattle.std.proofs.Common.{◌∙◌, inl}
 use Rattle.engine.proofs.Making.{made_parts}
 use Rattle.engine.proofs.graph.Graph.formula.Goals as goal
 
-pub run-formula-walked-requires : goal.run-formula-walked-requires
-run-formula-walked-requires g c =
-    let q = c.in-ok-read.ensures in
+pub run_formula-walked-requires : goal.run_formula-walked-requires
+run_formula-walked-requires g c =
+    let q = c.in_ok-read.ensures in
     record {
       sound = c.len-held.ensures.sound;
       right = λ e h. absurd (c.clear.ensures e h);
@@ -13,8 +13,8 @@ run-formula-walked-requires g c =
 
 pub returns : goal.returns
 returns g c =
-    let q = c.in-ok-read.ensures in
-    let w = c.run-formula-walked.ensures in
+    let q = c.in_ok-read.ensures in
+    let w = c.run_formula-walked.ensures in
     record {
       out = record { outcome = inl (record { short = q.short; tree = q.tree; derived = q.derived; made = made_parts _ _ _ _ _ _ q.tree _ _ w.size w.sound c.len-held.ensures.value (w.value q.tree q.steps) c.end.ensures.ended }) };
       size = c.end.ensures.size ∙ w.size;
