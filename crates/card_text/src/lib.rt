@@ -1,5 +1,6 @@
 // Card texts: the reader of a whole card, which gives every fault its number and place, and the records one by one.
 #![tactic(auto)]
+
 mod faults;
 mod fields;
 mod reader;

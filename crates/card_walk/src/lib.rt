@@ -1,5 +1,6 @@
 // The sum of a card's conditions, made over handles, and what is shown of it: inner code, whose functions have `requires`; only the engine above calls them.
 #![tactic(auto)]
+
 mod shown;
 mod sums;
 mod uses;

@@ -1,5 +1,6 @@
 // Makes every part of a formula over handles, by running its steps: inner code, whose functions have `requires`; only the engine above calls them.
 #![tactic(auto)]
+
 ghost use Rattle.std.specs.Prelude.{◌≡◌, Bool};
 ghost use Rattle.formula.specs.Meaning.{combine};
 ghost use Rattle.walk.specs.Ops.{answer};

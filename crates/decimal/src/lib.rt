@@ -1,5 +1,6 @@
 // Bytes and decimal numbers, written into an output from a place on: inner code, whose functions have `requires`.
 #![tactic(auto)]
+
 ghost use Rattle.std.specs.Prelude.{◌≡◌, ◌+◌, ◌<◌, ◌≤◌, [], ◌∷◌, length, decimal};
 ghost use Rattle.product.specs.Put.{Put};
 

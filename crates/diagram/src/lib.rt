@@ -1,5 +1,6 @@
 // Reduced ordered decision diagrams: the node, and the theorems that every crate above relies on.
 #![tactic(auto)]
+
 ghost use Rattle.std.specs.Prelude.{◌≡◌, Decides};
 ghost use Rattle.diagram.specs.Theorems.{Canonical, LevelsOnly, NodesReached, HeldCounted, GrowthKeeps, UnionCounted, CountDecides, UnionWithin, UnionExceeds};
 

@@ -1,5 +1,6 @@
 // Graphs of conditions: reduced decision diagrams over any node table, with exact node accounting.
 #![tactic(auto)]
+
 mod calls;
 mod card_faults;
 mod cards;

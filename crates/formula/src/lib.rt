@@ -1,5 +1,6 @@
 // Formulas over the twelve options: the reader, which gives every fault its number and place, and the truth table.
 #![tactic(auto)]
+
 ghost use Rattle.formula.specs.Grammar.{OneTree, PostfixInjective};
 
 mod faults;

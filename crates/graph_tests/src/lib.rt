@@ -1,5 +1,6 @@
 // Examples of graph calls over both tables; nothing but tests.
 #![tactic(auto)]
+
 #[cfg(test)]
 mod examples;
 #[cfg(test)]

@@ -1,5 +1,6 @@
 // Implicants of conditions: primes, essential primes, and sets of products as functions of the variables.
 #![tactic(auto)]
+
 ghost use Rattle.implicant.specs.Theorems.{PrimeBothWays, EssentialBothWays, PrimesCover, PrimeRecursion, LevelsOfOptions, SignsAreVersions, VersionsAreSigns, SetsHaveProducts, ProductsMakeSets, PrimesHaveOneSet, PrimesAreProductSet, MasksAreWords, MasksAreVersions, NodesVary, ListedOnce, PrimesListed};
 ghost use Rattle.implicant.specs.Examples.{XorPrimes, CyclePrimes, YesPrimes, NoPrimes};
 

@@ -1,5 +1,6 @@
 // The list of a condition, written from the product set of its primes: inner code, whose functions have `requires`; only the engine above calls them.
 #![tactic(auto)]
+
 mod counts;
 mod faults;
 mod receivers;

@@ -1,5 +1,6 @@
 // A node table over lent bytes: 256 chain heads, then slots of 8 bytes.
 #![tactic(auto)]
+
 ghost use Rattle.std.specs.Prelude.{◌≡◌, ℕ, ◌+◌, ◌-◌, ◌*◌, ◌/◌, ◌<◌, ◌≤◌, [], ◌∷◌, length, drop, Decides, MatchOption, slice_index};
 ghost use Rattle.diagram.specs.Nodes.{At, Fit, WellFormed};
 ghost use Rattle.table.specs.Model.{Absent};

@@ -1,5 +1,6 @@
 // Walks over product sets that enter no node: inner code, whose functions have `requires`; only the engine above calls them.
 #![tactic(auto)]
+
 mod handing;
 mod receiver;
 mod sets;

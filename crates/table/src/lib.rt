@@ -1,5 +1,6 @@
 // Node tables: the nodes of a decision diagram, each held once, in memory that the caller lends.
 #![tactic(auto)]
+
 mod decided;
 mod faults;
 mod fitting;

@@ -1,5 +1,6 @@
 // Examples of the node tables; nothing but tests.
 #![tactic(auto)]
+
 #[cfg(test)]
 mod layout;
 #[cfg(test)]

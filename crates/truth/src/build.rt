@@ -16,7 +16,7 @@ pub struct Built {
 
 // Builds a text's formula over a table, whose nodes are taken out.
 fn run<T: NodeTable + Drop>(table: T, text: &[u8]) -> Built
-    ensures { Builds (limit table) text.now result.answer result.nodes }
+    ensures { Builds (T.limit table) text.now result.answer result.nodes }
 {
     let mut graph = Graph::new(table);
     let answer = graph.formula(text);

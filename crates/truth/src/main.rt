@@ -1,5 +1,6 @@
 // Reads a formula from standard input, and prints its steps, at how many versions it is yes and its graph, or why it is refused.
 #![tactic(auto)]
+
 use std::io;
 use std::io::{Read, Write};
 

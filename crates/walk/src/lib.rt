@@ -1,5 +1,6 @@
 // Walks over a decision diagram: inner code, whose functions have `requires`; only the engine above calls them.
 #![tactic(auto)]
+
 mod cache;
 mod cofactors;
 mod handles;
