@@ -1,5 +1,5 @@
 -- The rules decide a text in one way. Assumes nothing.
-use Rattle.std.proofs.Common.{◌≡◌, ℕ, ◌+◌, ◌<◌, ◌≤◌, ◌⊎◌, List, [], ◌∷◌, ◌++◌, length, take, sym, refl, ap, ◌∙◌, subst, subst₂, inl, inr, ⊎_elim, append-nil, arith, length-append, length-take}
+use Rattle.std.proofs.Common.{◌≡◌, ℕ, ◌+◌, ◌<◌, ◌⊎◌, List, [], ◌∷◌, ◌++◌, length, take, sym, refl, ap, ◌∙◌, subst, subst₂, inl, inr, ⊎_elim, append-nil, arith, length-append, length-take}
 use Rattle.std.proofs.ByRecursion.{All-get_or}
 use Rattle.std.proofs.lemmas.List.{get_or-take}
 use Rattle.std.proofs.lemmas.Bool.{cases_order}
@@ -8,7 +8,7 @@ use Rattle.card_text.specs.declared.faults.TextFault.TheVariants.{LooseLetter}
 use Rattle.card_text.specs.declared.state.Stage.{Stage}
 use Rattle.card_text.specs.Grammar.{Row, card_row, opt_row, use_row, end_row, spell, Begins}
 use Rattle.card_text.specs.Card.{spelled, option_names, stage_after, Loose, Sound, Good, IsCard}
-use Rattle.card_text.specs.Faults.{First, Misread, broken, loose, Wrong, Faulty, form, inside, Upto, Refused, long, leftmost}
+use Rattle.card_text.specs.Faults.{First, Misread, broken, loose, Wrong, Faulty, form, inside, Upto, long, leftmost}
 use Rattle.card_text.specs.Exact.{OneCard, CardKept, OneFault}
 use Rattle.card_text.proofs.Formulas.{formula_whole, moved_once}
 use Rattle.card_text.proofs.Lines.{last_line}

@@ -1,9 +1,9 @@
 -- Cards are the texts that are written as a card. Assumes nothing.
-use Rattle.std.proofs.Common.{◌≡◌, ℕ, ◌+◌, ◌<◌, ◌≤◌, true, false, ◌⊎◌, List, [], ◌∷◌, ◌++◌, length, codes, sym, refl, ap, ◌∙◌, subst, inl, inr, ⊎_elim, append_assoc, append-nil, arith, length-append}
+use Rattle.std.proofs.Common.{◌≡◌, ℕ, ◌+◌, ◌<◌, ◌≤◌, true, false, ◌⊎◌, List, [], ◌∷◌, ◌++◌, length, codes, sym, refl, ap, ◌∙◌, subst, inl, inr, append_assoc, append-nil, arith, length-append}
 use Rattle.std.specs.List.{AllByRecursion as All}
 use Rattle.std.proofs.ByRecursion.{All-push, All-weaker, All-append}
 use Rattle.std.proofs.lemmas.List.{length_push}
-use Rattle.card_text.specs.declared.state.Stage.TheVariants.{Start, Options, Uses, Done}
+use Rattle.card_text.specs.declared.state.Stage.TheVariants.{Start, Options, Uses}
 use Rattle.card_text.specs.Grammar.{Row, card_row, opt_row, use_row, end_row, spell, NoFeed}
 use Rattle.card_text.specs.Card.{spelled, option_names, formulas, card_title, stage_of, stage_after, Plain, Within, Fresh, IsFormula, Sound, Good, IsCard}
 use Rattle.card_text.specs.Layout.{line, opt_lines, use_lines, Named, Usable, Written, CardsAreWritten, WrittenCard}

@@ -1,5 +1,5 @@
 -- A text begins with one record at most. Assumes nothing.
-use Rattle.std.proofs.Common.{◌≡◌, ℕ, ◌+◌, ◌<◌, ◌≤◌, cond, eqb, List, [], ◌∷◌, ◌++◌, length, get_or, drop, Result, sym, refl, ap, ◌∙◌, subst, subst₂, arith, length-append, length-drop, MatchResult}
+use Rattle.std.proofs.Common.{◌≡◌, ℕ, ◌+◌, ◌≤◌, cond, eqb, List, ◌∷◌, ◌++◌, length, get_or, drop, Result, sym, refl, ap, ◌∙◌, subst, subst₂, arith, length-append, length-drop, MatchResult}
 use Rattle.std.proofs.lemmas.Result.{MatchResult-weaker}
 use Rattle.card_text.specs.declared.faults.TextFault.{TextFault}
 use Rattle.card_text.specs.declared.faults.TextFault.TheVariants.{Form}
@@ -9,7 +9,7 @@ use Rattle.card_text.specs.declared.records.Record.{Record}
 use Rattle.card_text.specs.declared.records.Record.TheVariants.{Card, Opt, Use, End}
 use Rattle.card_text.specs.declared.state.Seen.{Seen}
 use Rattle.card_text.specs.declared.state.Stage.{Stage}
-use Rattle.card_text.specs.Grammar.{Row, card_row, opt_row, use_row, end_row, spell, NoFeed, Begins}
+use Rattle.card_text.specs.Grammar.{Row, card_row, opt_row, use_row, end_row, spell, Begins}
 use Rattle.card_text.specs.Card.{Fits, Ruled, Meant, IsFormula, AllGiven}
 use Rattle.card_text.specs.Faults.{Misread, Wrong, Faulty, form}
 use Rattle.card_text.specs.Reads.{row_of, Placed, RecordAt}

@@ -1,10 +1,9 @@
 -- The reader's way through a text, record by record, and what its end shows. Assumes nothing.
-use Rattle.std.proofs.Common.{◌≡◌, ℕ, ◌<◌, ◌≤◌, List, [], ◌∷◌, ◌++◌, length, drop, sym, refl, ap, ◌∙◌, subst, subst₂, append_assoc, append-nil, arith, length-append, length-drop}
+use Rattle.std.proofs.Common.{◌≡◌, ℕ, ◌<◌, ◌≤◌, List, [], ◌∷◌, ◌++◌, length, drop, sym, ap, ◌∙◌, subst, subst₂, append_assoc, append-nil, arith, length-append, length-drop}
 use Rattle.std.proofs.lemmas.List.{drop_all}
 use Rattle.card_text.specs.declared.faults.TextFault.{TextFault}
 use Rattle.card_text.specs.declared.faults.TextFault.TheVariants.{Form}
 use Rattle.card_text.specs.declared.state.Seen.{Seen}
-use Rattle.card_text.specs.declared.state.Stage.{Stage}
 use Rattle.card_text.specs.declared.state.Stage.TheVariants.{Done}
 use Rattle.card_text.specs.Grammar.{Row, card_row, opt_row, use_row, end_row, spell}
 use Rattle.card_text.specs.Card.{spelled, option_names, add_name, card_title, add_title, mark, front_rows, stage_after, Sound, Good, IsCard}

@@ -2,7 +2,6 @@
 use Rattle.std.specs.Prelude.{◌≡◌, ℕ, ◌+◌, ◌<◌, ◌≤◌, List, length, drop}
 use Rattle.card_text.specs.Grammar.{Row, card_row, opt_row, use_row, end_row, Begins}
 use Rattle.card_text.specs.Card.{IsCard, spelled, option_names, formulas, card_title, front_rows, Tail}
-use Rattle.card_text.specs.declared.records.Part.{Part}
 use Rattle.card_text.specs.declared.records.Record.{Record}
 use Rattle.card_text.specs.declared.records.Record.TheVariants as record'
 use Rattle.card_text.specs.declared.records.Found.{Found}

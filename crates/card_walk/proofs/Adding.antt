@@ -5,7 +5,7 @@ use Rattle.diagram.specs.declared.Node.{Node}
 use Rattle.diagram.specs.Functions.{Fun, Constant, Restriction}
 use Rattle.diagram.specs.Nodes.{Issued, meaning, WellFormed}
 use Rattle.diagram.specs.Outcomes.{Grants, Denies}
-use Rattle.diagram.proofs.Growth.{meaning_kept, issued_kept}
+use Rattle.diagram.proofs.Growth.{meaning_kept}
 use Rattle.diagram.proofs.Outcome.{grows_none, grants_then, denies_then, denies_up, grants_varying, denies_varying, denies_limit}
 use Rattle.diagram.proofs.Account.{gives_grants}
 use Rattle.table.specs.declared.faults.TableFault.{TableFault}
@@ -15,7 +15,7 @@ use Rattle.formula.specs.Grammar.{Tree}
 use Rattle.walk.specs.declared.ops.Op.TheVariants.{Or}
 use Rattle.walk.specs.Ops.{joined}
 use Rattle.walk.specs.Outcomes.{Walked}
-use Rattle.compile.specs.Trees.{of_tree, PartRestriction}
+use Rattle.compile.specs.Trees.{of_tree}
 use Rattle.compile.specs.Outcomes.{Compiled}
 use Rattle.compile.proofs.Parts.{part_node, node_part}
 use Rattle.card_walk.specs.Sums.{never, either, sum_onto, some_of, SumNode, SumRestriction}

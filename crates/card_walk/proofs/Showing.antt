@@ -1,7 +1,6 @@
 -- The CARD record before a list. Assumes nothing.
-use Rattle.std.proofs.Common.{◌≡◌, ℕ, ◌+◌, ◌-◌, ◌<◌, ◌≤◌, min, List, [], ◌∷◌, ◌++◌, length, take, drop, Ok, Err, count_by, Result, sym, refl, ap, ◌∙◌, subst, inl, inr, append_assoc, append-nil, arith, length-append, length-drop, drop_of_length-le, length-take}
-use Rattle.std.proofs.lemmas.List.{take_at, drop_at, drop-drop, take_all}
-use Rattle.std.proofs.lemmas.Bool.{cases_lt}
+use Rattle.std.proofs.Common.{◌≡◌, ℕ, ◌+◌, ◌-◌, ◌<◌, ◌≤◌, min, List, [], ◌∷◌, ◌++◌, length, take, drop, Ok, Err, count_by, Result, sym, refl, ap, ◌∙◌, subst, append_assoc, append-nil, arith, length-append, length-drop, drop_of_length-le, length-take}
+use Rattle.std.proofs.lemmas.List.{drop_at, drop-drop, take_all}
 use Rattle.diagram.specs.Functions.{Fun}
 use Rattle.product.specs.Put.{Put}
 use Rattle.product.proofs.Putting.{put_two, put_as, put_first}
@@ -69,9 +68,9 @@ module _ (title old : List ℕ) (g : Fun) (from : ℕ) (at : from ≡ min (lengt
         let o = l.outcome in
         let bytes = l.bytes in
         let end : drop (length old - from) (drop from old) ≡ [] = drop_of_length-le (drop from old) (omega (arith, length-drop from old)) in
-        let at-r : from ≡ r = head_is ∙ sym (p.value ∙ omega arith) in
+        let at_r : from ≡ r = head_is ∙ sym (p.value ∙ omega arith) in
         let behind : drop r (put_mid from (length old - from) old sub) ≡ sub =
-        ap (λ (m : ℕ). drop m (put_mid from (length old - from) old sub)) (sym at-r)
+        ap (λ (m : ℕ). drop m (put_mid from (length old - from) old sub)) (sym at_r)
         ∙ drop_at (take from old) (sub ++ drop (length old - from) (drop from old)) from (omega (arith, length-take from old, at))
         ∙ ap (λ (z : List ℕ). sub ++ z) end ∙ append-nil sub in
         let rest : drop (length bytes) part ≡ drop (length (heading title ++ bytes)) old =

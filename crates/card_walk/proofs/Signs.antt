@@ -1,6 +1,6 @@
 -- The sum of formulas depends on signs only. Assumes nothing.
-use Rattle.std.proofs.Common.{◌≡◌, ℕ, ◌+◌, ◌-◌, ◌*◌, ◌<◌, ◌≤◌, not, ◌||◌, List, [], ◌∷◌, sym, refl, ap, ◌∙◌, arith}
-use Rattle.diagram.specs.Functions.{Setting, sign_level}
+use Rattle.std.proofs.Common.{◌≡◌, ℕ, ◌+◌, ◌-◌, ◌*◌, ◌≤◌, not, ◌||◌, List, [], ◌∷◌, sym, refl, ap, ◌∙◌, arith}
+use Rattle.diagram.specs.Functions.{sign_level}
 use Rattle.formula.specs.declared.steps.Leaf.TheVariants.{Constant, Option}
 use Rattle.formula.specs.Grammar.{Tree, Derives, single, negated, bracket, looser, chained, once}
 use Rattle.formula.specs.Meaning.{Signs, combine, truth}

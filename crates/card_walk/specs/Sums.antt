@@ -1,5 +1,5 @@
 -- The sum of some formulas, and the working nodes of making it one by one.
-use Rattle.std.specs.Prelude.{◌≡◌, ℕ, ◌≤◌, false, ◌||◌, ◌⊎◌, List, [], ◌∷◌, length}
+use Rattle.std.specs.Prelude.{ℕ, ◌≤◌, false, ◌||◌, ◌⊎◌, List, [], ◌∷◌, length}
 use Rattle.diagram.specs.Functions.{Fun, Restriction, NodeOf}
 use Rattle.formula.specs.Grammar.{Tree, Derives}
 use Rattle.compile.specs.Trees.{of_tree, PartNode, PartRestriction}

@@ -1,5 +1,5 @@
 -- The loop over a formula's steps: what the stack holds between two of them. Assumes nothing.
-use Rattle.std.proofs.Common.{◌≡◌, ℕ, zero, suc, ◌+◌, ◌-◌, ◌<◌, ◌≤◌, ◌⊎◌, List, [], ◌∷◌, length, get_or, drop, set, Ok, Err, sym, refl, ap, ◌∙◌, subst, inl, ⊎_elim, arith, length-set, drop_of_length-le, length-take}
+use Rattle.std.proofs.Common.{◌≡◌, ℕ, zero, suc, ◌+◌, ◌<◌, ◌≤◌, ◌⊎◌, List, [], ◌∷◌, length, get_or, drop, set, Ok, Err, sym, refl, ap, ◌∙◌, subst, inl, ⊎_elim, arith, length-set, drop_of_length-le, length-take}
 use Rattle.std.proofs.lemmas.List.{drop_more}
 use Rattle.diagram.specs.declared.Node.{Node}
 use Rattle.diagram.specs.Functions.{Fun, Restriction}

@@ -1,16 +1,14 @@
 -- Calls that make what was made before. Assumes nothing.
-use Rattle.std.proofs.Common.{◌≡◌, ℕ, ◌+◌, ◌<◌, ◌≤◌, Bool, ◌⊎◌, List, [], ◌∷◌, ◌++◌, length, Ok, Err, Result, sym, refl, ap, ◌∙◌, subst, inl, inr, ⊎_elim, arith, length-append}
-use mathlib.Core.Path.{fun_ext}
+use Rattle.std.proofs.Common.{◌≡◌, ℕ, ◌+◌, ◌≤◌, List, [], ◌∷◌, ◌++◌, length, Ok, Err, Result, sym, refl, ap, ◌∙◌, subst, inl, inr, ⊎_elim, arith, length-append}
 use Rattle.diagram.specs.declared.Node.{Node}
 use Rattle.diagram.specs.Functions.{Fun, Constant}
 use Rattle.diagram.specs.Nodes.{Issued, meaning, Extends}
-use Rattle.diagram.specs.Counts.{Held, Among, Distinct, Count, AtLeast}
+use Rattle.diagram.specs.Counts.{Count, AtLeast}
 use Rattle.diagram.specs.Outcomes.{Granted}
 use Rattle.diagram.proofs.Canon.{canonical, varies_at}
-use Rattle.diagram.proofs.Growth.{issued_kept, meaning_kept, extends_self, extends_trans}
+use Rattle.diagram.proofs.Growth.{issued_kept, meaning_kept, extends_trans}
 use Rattle.diagram.proofs.Counting.{pigeonhole, functions, functions_length, functions_distinct, held_among, among_held}
 use Rattle.diagram.proofs.Counted.{grown_from, granted_holds}
-use Rattle.formula.specs.declared.steps.Operator.{Operator}
 use Rattle.formula.specs.Grammar.{Tree, Derives}
 use Rattle.formula.specs.Answer.{Refused}
 use Rattle.formula.proofs.Drive.{unique}
@@ -24,7 +22,7 @@ use Rattle.card_walk.proofs.Adding.{sum_varies}
 use Rattle.engine.specs.declared.faults.GraphFault.{GraphFault}
 use Rattle.engine.specs.Works.{Work, result, parts, primes_of, sums, shown, Working, complement, combined, fixed}
 use Rattle.engine.specs.Calls.{Made, Rejected, Guarded}
-use Rattle.engine.specs.Requests.{Call, option_call, not_call, combine_call, restrict_call, formula_call, primes_call, Out}
+use Rattle.engine.specs.Requests.{option_call, not_call, combine_call, restrict_call, formula_call, primes_call}
 use Rattle.engine.specs.Theorems.{CallsExtend, SecondCall, EqualHandles, CallCounted, CallDecided}
 
 pub equal_handles : EqualHandles

@@ -1,5 +1,5 @@
 -- From a walk and its end to what the call promises. Assumes nothing.
-use Rattle.std.proofs.Common.{◌≡◌, ℕ, ◌*◌, ◌<◌, ◌≤◌, Bool, true, false, cond, not, List, [], length, Ok, Err, Result, sym, refl, ap, ◌∙◌, subst, arith, drop_of_length-le}
+use Rattle.std.proofs.Common.{◌≡◌, ℕ, ◌*◌, ◌≤◌, Bool, true, false, not, List, [], length, Ok, Err, Result, sym, refl, ap, ◌∙◌, subst, arith, drop_of_length-le}
 use mathlib.Core.Path.{fun_ext}
 use mathlib.Core.Bool.{beq}
 use Rattle.diagram.specs.declared.Node.{Node}

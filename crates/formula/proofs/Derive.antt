@@ -1,27 +1,21 @@
 -- What each part of the reader adds to a derivation, and what each refusal shows. Assumes nothing.
-use Rattle.std.proofs.Common.{◌≡◌, ℕ, zero, suc, ◌+◌, ◌-◌, ◌<◌, ◌≤◌, true, cond, leb, ◌⊎◌, List, [], ◌∷◌, ◌++◌, length, get_or, take, drop, replicate, sym, refl, ap, ◌∙◌, subst, inl, inr, ⊎_elim, append_assoc, append-nil, arith, drop-drop, take-add}
-use borrow.Author.Tests.{lt-leb}
+use Rattle.std.proofs.Common.{◌≡◌, ℕ, zero, suc, ◌+◌, ◌-◌, ◌<◌, ◌≤◌, true, ◌⊎◌, List, [], ◌∷◌, ◌++◌, length, get_or, take, drop, replicate, sym, ap, ◌∙◌, subst, inl, inr, ⊎_elim, append_assoc, append-nil, arith, drop-drop, take-add}
 use Rattle.std.specs.List.{between}
 use Rattle.std.proofs.str.Laws.{order}
 use Rattle.std.proofs.lemmas.List.Edits.{between_none, between_more}
 use Rattle.formula.specs.declared.steps.Leaf.{Leaf}
-use Rattle.formula.specs.declared.steps.Leaf.TheVariants.{Option}
 use Rattle.formula.specs.declared.steps.Operator.{Operator}
-use Rattle.formula.specs.declared.steps.Step.{Step}
 use Rattle.formula.specs.declared.steps.Step.TheVariants.{Load, Negate, Apply}
 use Rattle.formula.specs.declared.steps.Token.{Token}
 use Rattle.formula.specs.declared.steps.Token.TheVariants.{Operand, Negation, Infix, Opening, Closing, Foreign}
 use Rattle.formula.specs.declared.steps.StepBuffer.{StepBuffer}
-use Rattle.formula.specs.declared.faults.FormulaFault.{FormulaFault}
-use Rattle.formula.specs.declared.faults.FormulaFault.TheVariants.{TooLong, ForeignByte, Unexpected, TooDeep}
 use Rattle.formula.specs.Notation.{notation}
 use Rattle.formula.specs.Grammar.{Tree, leaf, neg, binary, postfix, Derives, single, negated, bracket, looser, chained, once}
-use Rattle.formula.specs.Automaton.{Chain, start, wait, Outer, outside, inside, height, State, dead, operand, operator, nots, fold, blocked, close, step, run, Below, Drives}
-use Rattle.formula.specs.Faults.{fault_place}
+use Rattle.formula.specs.Automaton.{Chain, nots, fold, blocked, Drives}
 use Rattle.formula.specs.Reads.{written}
-use Rattle.formula.specs.Reads.{Reads, Fails, Stops, Unfinished, Limit, Plain, Named, After}
+use Rattle.formula.specs.Reads.{Reads, Stops, After}
 use Rattle.formula.proofs.Notes.{strength_bounds}
-use Rattle.formula.proofs.Drive.{Any, Last, d_map, d_single, d_negated, d_bracket, d_weaker, d_join, below_more, step_open, step_infix, step_blocked}
+use Rattle.formula.proofs.Drive.{Any, Last, d_map, d_single, d_negated, d_bracket, d_weaker, d_join}
 
 -- parts of the text
 pub between_join : (xs : List ℕ) (a b c : ℕ) → a ≤ b → b ≤ c → between a c xs ≡ between a b xs ++ between b c xs

@@ -1,10 +1,9 @@
 -- The automaton and the grammar: every derivation is run through, and a text has one tree. Assumes nothing.
-use Rattle.std.proofs.Common.{◌≡◌, ℕ, zero, suc, ◌+◌, ◌-◌, ◌<◌, ◌≤◌, Bool, true, false, cond, eqb, leb, ◌⊎◌, List, [], ◌∷◌, ◌++◌, sym, refl, ap, ◌∙◌, subst, inl, inr, ⊎_elim, append_assoc, append-nil, arith, eq-eqb, ne_eqb, le-leb, leb-false, leb-true}
+use Rattle.std.proofs.Common.{◌≡◌, ℕ, suc, ◌+◌, ◌<◌, ◌≤◌, Bool, true, false, cond, leb, List, [], ◌∷◌, ◌++◌, sym, refl, ap, ◌∙◌, subst, ⊎_elim, append_assoc, append-nil, arith, eq-eqb, ne_eqb, le-leb, leb-true}
 use borrow.Author.Tests.{lt-leb}
 use Rattle.formula.specs.declared.steps.Leaf.{Leaf}
 use Rattle.formula.specs.declared.steps.Operator.{Operator}
-use Rattle.formula.specs.declared.steps.Token.{Token}
-use Rattle.formula.specs.declared.steps.Token.TheVariants.{Operand, Negation, Infix, Opening, Closing, Foreign}
+use Rattle.formula.specs.declared.steps.Token.TheVariants.{Operand, Negation, Infix, Opening, Closing}
 use Rattle.formula.specs.Notation.{notation}
 use Rattle.formula.specs.Grammar.{Tree, leaf, neg, binary, Derives, single, negated, bracket, looser, chained, once, Viable}
 use Rattle.formula.specs.Automaton.{Chain, start, wait, Outer, outside, inside, height, State, dead, operand, operator, nots, fold, blocked, enter, close, step, run, Below, Drives}

@@ -1,28 +1,25 @@
 -- What each refusal of the reader shows. Assumes nothing.
-use Rattle.std.proofs.Common.{◌≡◌, ℕ, zero, suc, ◌+◌, ◌-◌, ◌<◌, ◌≤◌, true, cond, leb, ◌⊎◌, List, [], ◌∷◌, ◌++◌, length, get_or, take, drop, replicate, sym, refl, ap, ◌∙◌, subst, inl, inr, ⊎_elim, append_assoc, append-nil, arith}
+use Rattle.std.proofs.Common.{◌≡◌, ℕ, zero, suc, ◌+◌, ◌-◌, ◌<◌, ◌≤◌, true, cond, List, [], ◌∷◌, ◌++◌, length, get_or, sym, refl, ap, ◌∙◌, subst, ⊎_elim, append_assoc, append-nil, arith}
 use borrow.Author.Tests.{lt-leb}
 use Rattle.std.specs.List.{between}
 use Rattle.std.proofs.str.Laws.{order}
 use Rattle.std.proofs.lemmas.List.Edits.{between_none, between_more}
-use Rattle.formula.proofs.Derive.{between_join, between_one, between_cons, weaker, deepen, join, Sofar, AllNegations}
+use Rattle.formula.proofs.Derive.{between_join, between_one, weaker, deepen, join, Sofar, AllNegations}
 use Rattle.formula.specs.declared.steps.Leaf.{Leaf}
 use Rattle.formula.specs.declared.steps.Leaf.TheVariants.{Option}
 use Rattle.formula.specs.declared.steps.Operator.{Operator}
-use Rattle.formula.specs.declared.steps.Step.{Step}
-use Rattle.formula.specs.declared.steps.Step.TheVariants.{Load, Negate, Apply}
 use Rattle.formula.specs.declared.steps.Token.{Token}
 use Rattle.formula.specs.declared.steps.Token.TheVariants.{Operand, Negation, Infix, Opening, Closing, Foreign}
 use Rattle.formula.specs.declared.steps.StepBuffer.{StepBuffer}
 use Rattle.formula.specs.declared.faults.FormulaFault.{FormulaFault}
 use Rattle.formula.specs.declared.faults.FormulaFault.TheVariants.{TooLong, ForeignByte, Unexpected, TooDeep}
 use Rattle.formula.specs.Notation.{notation}
-use Rattle.formula.specs.Grammar.{Tree, leaf, neg, binary, postfix, Derives, single, negated, bracket, looser, chained, once}
-use Rattle.formula.specs.Automaton.{Chain, start, wait, Outer, outside, inside, height, State, dead, operand, operator, nots, fold, blocked, close, step, run, Below, Drives}
+use Rattle.formula.specs.Grammar.{Tree, leaf, neg, binary, Derives, single, negated, bracket}
+use Rattle.formula.specs.Automaton.{Chain, start, wait, Outer, outside, inside, height, dead, operand, operator, nots, fold, blocked, close, step, run, Below}
 use Rattle.formula.specs.Faults.{fault_place}
-use Rattle.formula.specs.Reads.{written}
-use Rattle.formula.specs.Reads.{Reads, Fails, Stops, Unfinished, Limit, Plain, Named, After}
+use Rattle.formula.specs.Reads.{Reads, Fails, Unfinished, Limit, Plain, Named}
 use Rattle.formula.proofs.Notes.{strength_bounds}
-use Rattle.formula.proofs.Drive.{Any, Last, d_map, d_single, d_negated, d_bracket, d_weaker, d_join, below_more, step_open, step_infix, step_blocked}
+use Rattle.formula.proofs.Drive.{below_more, step_open, step_infix, step_blocked}
 
 limit_32 : (e : FormulaFault) (L : ℕ) → Limit e L → 32 ≤ L
 limit_32 TooLong L h = absurd h

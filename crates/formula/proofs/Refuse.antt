@@ -1,16 +1,16 @@
 -- From the automaton to the grammar. Assumes nothing.
-use Rattle.std.proofs.Common.{◌≡◌, ℕ, zero, suc, ◌+◌, ◌-◌, ◌<◌, ◌≤◌, ◌⊎◌, List, [], ◌∷◌, ◌++◌, length, get_or, take, drop, replicate, sym, refl, ap, ◌∙◌, subst, inl, inr, ⊎_elim, append_assoc, append-nil, arith, take-append-drop, take-take}
+use Rattle.std.proofs.Common.{◌≡◌, ℕ, ◌+◌, ◌-◌, ◌<◌, ◌≤◌, List, ◌++◌, length, take, drop, sym, refl, ap, ◌∙◌, subst, ⊎_elim, append_assoc, arith, take-append-drop, take-take}
 use lib.Seq.{take-length}
 use Rattle.std.specs.List.{between}
 use Rattle.std.proofs.str.Laws.{order}
 use Rattle.formula.specs.declared.faults.FormulaFault.{FormulaFault}
 use Rattle.formula.specs.declared.faults.FormulaFault.TheVariants.{TooLong, ForeignByte, Unexpected, TooDeep}
-use Rattle.formula.specs.Grammar.{Tree, postfix, Derives, Viable, IsPostfix, Longest}
-use Rattle.formula.specs.Automaton.{start, outside, State, dead, operand, run, height}
+use Rattle.formula.specs.Grammar.{postfix, Derives, Viable, IsPostfix}
+use Rattle.formula.specs.Automaton.{start, outside, dead, operand, run, height}
 use Rattle.formula.specs.declared.steps.StepBuffer.{StepBuffer}
 use Rattle.formula.specs.declared.stored.Formula.{Formula}
 use Rattle.formula.specs.Faults.{fault_place}
-use Rattle.formula.specs.Answer.{steps_of, Read, Broken, ForeignAt, TooDeepAt, Refused}
+use Rattle.formula.specs.Answer.{steps_of, Read, Broken, Refused}
 use Rattle.formula.specs.Reads.{written, Reads, Fails, Unfinished, Limit, Named}
 use Rattle.formula.proofs.Drive.{not_viable, unfinished}
 

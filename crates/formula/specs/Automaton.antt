@@ -1,5 +1,5 @@
 -- A reader of one byte after another, which the inner functions' contracts speak of; no public contract does.
-use Rattle.std.specs.Prelude.{◌≡◌, ℕ, zero, suc, ◌+◌, ◌<◌, ◌≤◌, Bool, true, false, cond, List, [], ◌∷◌, ◌++◌, ◌==◌, nat_le}
+use Rattle.std.specs.Prelude.{◌≡◌, ℕ, zero, suc, ◌+◌, ◌<◌, ◌≤◌, Bool, false, cond, List, [], ◌∷◌, ◌++◌, ◌==◌, nat_le}
 use Rattle.formula.specs.declared.steps.Operator.{Operator}
 use Rattle.formula.specs.declared.steps.Token.{Token}
 use Rattle.formula.specs.declared.steps.Token.TheVariants.{Operand, Negation, Infix, Opening, Closing, Foreign}

@@ -1,6 +1,5 @@
 -- The 22 characters and what each stands for.
-use Rattle.std.specs.Prelude.{◌≡◌, ℕ, ◌+◌, ◌-◌, Bool, true, false, cond, ◌==◌, nat_le}
-use Rattle.formula.specs.declared.steps.Leaf.{Leaf}
+use Rattle.std.specs.Prelude.{◌≡◌, ℕ, ◌+◌, ◌-◌, true, false, cond, ◌==◌, nat_le}
 use Rattle.formula.specs.declared.steps.Leaf.TheVariants.{Constant, Option}
 use Rattle.formula.specs.declared.steps.Operator.{Operator}
 use Rattle.formula.specs.declared.steps.Operator.TheVariants.{And, Xor, Or, Implies, Iff}

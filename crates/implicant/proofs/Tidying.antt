@@ -60,7 +60,7 @@ module _ {l : ℕ} (odd : l % 2 ≡ 1) {f lo hi : Fun} (d : Sides l f lo hi) whe
   pub set_absent : ProductSet f → ProductSet lo
   set_absent t = record { each = λ m a b. tidy_low m d (λ q. omega arith) (t.each m a b) }
 
-  module _ {no-side yes-side : Fun} (c : Sides (l + 1) hi no-side yes-side) where
+  module _ {no_side yes_side : Fun} (c : Sides (l + 1) hi no_side yes_side) where
     -- a side of the sign ignores it, and is at other options as f is
     side : (g : Fun) → Ignores (l + 1) g → ((m : ℕ) → (l ≡ 2 * m + 1 → ⊥) → TidyAt m hi → TidyAt m g) → ProductSet f → ProductSet g
     side g own h t = record {
@@ -71,13 +71,13 @@ module _ {l : ℕ} (odd : l % 2 ≡ 1) {f lo hi : Fun} (d : Sides l f lo hi) whe
           ];
     }
 
-    pub set_refused : ProductSet f → ProductSet no-side
-    set_refused = side no-side c.low (λ m ne. tidy_low m c (λ q. ne (omega arith)))
+    pub set_refused : ProductSet f → ProductSet no_side
+    set_refused = side no_side c.low (λ m ne. tidy_low m c (λ q. ne (omega arith)))
 
-    pub set_wanted : ProductSet f → ProductSet yes-side
-    set_wanted = side yes-side c.high (λ m ne. tidy_high m c (λ q. ne (omega arith)) (λ q. omega arith))
+    pub set_wanted : ProductSet f → ProductSet yes_side
+    set_wanted = side yes_side c.high (λ m ne. tidy_high m c (λ q. ne (omega arith)) (λ q. omega arith))
 
-    pub set_by_parts : ProductSet lo → ProductSet no-side → ProductSet yes-side → ProductSet f
+    pub set_by_parts : ProductSet lo → ProductSet no_side → ProductSet yes_side → ProductSet f
     set_by_parts x y z = record {
       each = λ m a b.
           tidy_by_sides m d (λ q. omega arith) (x.each m a b) (λ ne. tidy_by_sides m c (λ q. ne (omega arith)) (y.each m a b) (λ _. z.each m a b));
@@ -91,12 +91,12 @@ module _ (n k : ℕ) {f lo hi : Fun} (d : Sides (2 * k + 1) f lo hi) (p : Words 
       at_put d false (put (2 * k + 2) false rest) ∙ own (put (2 * k + 2) false rest) rest (λ i lt. put_off (2 * k + 2) false rest i (λ q. omega arith))
 
   -- the sign of an option that is absent is no
-  pub products_unsigned : {no-side yes-side : Fun} → Sides (2 * k + 2) lo no-side yes-side → products (suc n) k f (absent, p) ≡ products n (k + 1) no-side p
+  pub products_unsigned : {no_side yes_side : Fun} → Sides (2 * k + 2) lo no_side yes_side → products (suc n) k f (absent, p) ≡ products n (k + 1) no_side p
   products_unsigned c = at_put d false (put (2 * k + 2) false (product_setting n (k + 1) p)) ∙ at_put c false (product_setting n (k + 1) p)
 
-  module _ {no-side yes-side : Fun} (c : Sides (2 * k + 2) hi no-side yes-side) where
-    pub products_refused : products (suc n) k f (refused, p) ≡ products n (k + 1) no-side p
+  module _ {no_side yes_side : Fun} (c : Sides (2 * k + 2) hi no_side yes_side) where
+    pub products_refused : products (suc n) k f (refused, p) ≡ products n (k + 1) no_side p
     products_refused = at_put d true (put (2 * k + 2) false (product_setting n (k + 1) p)) ∙ at_put c false (product_setting n (k + 1) p)
 
-    pub products_wanted : products (suc n) k f (wanted, p) ≡ products n (k + 1) yes-side p
+    pub products_wanted : products (suc n) k f (wanted, p) ≡ products n (k + 1) yes_side p
     products_wanted = at_put d true (put (2 * k + 2) true (product_setting n (k + 1) p)) ∙ at_put c true (product_setting n (k + 1) p)

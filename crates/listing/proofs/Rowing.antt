@@ -16,13 +16,13 @@ unfolding field
 field_is n = refl
 
 -- the row of a product, by the numbers that the code has
-module _ (p : Words 12) (marked : Bool) (number length-p : ℕ) (is_number : number ≡ number_of p) (is-length : length-p ≡ size_of p) where
-  pub row_is : (letter : ℕ) → letter ≡ cond marked 89 78 → (80 ∷ 44 ∷ []) ++ field number ++ field length-p ++ (letter ∷ 44 ∷ []) ++ letters_of p ++ (10 ∷ []) ≡ row p marked
+module _ (p : Words 12) (marked : Bool) (number length_p : ℕ) (is_number : number ≡ number_of p) (is_length : length_p ≡ size_of p) where
+  pub row_is : (letter : ℕ) → letter ≡ cond marked 89 78 → (80 ∷ 44 ∷ []) ++ field number ++ field length_p ++ (letter ∷ 44 ∷ []) ++ letters_of p ++ (10 ∷ []) ≡ row p marked
   unfolding row
-  row_is letter e = λ i. (80 ∷ 44 ∷ []) ++ field (is_number i) ++ field (is-length i) ++ (e i ∷ 44 ∷ []) ++ letters_of p ++ (10 ∷ [])
+  row_is letter e = λ i. (80 ∷ 44 ∷ []) ++ field (is_number i) ++ field (is_length i) ++ (e i ∷ 44 ∷ []) ++ letters_of p ++ (10 ∷ [])
 
-  pub row_length : length (row p marked) ≡ 5 + length (field number) + length (field length-p) + length (letters_of p)
-  row_length = sym (ap length (row_is (cond marked 89 78) refl)) ∙ shape (field number) (field length-p) (cond marked 89 78) (letters_of p)
+  pub row_length : length (row p marked) ≡ 5 + length (field number) + length (field length_p) + length (letters_of p)
+  row_length = sym (ap length (row_is (cond marked 89 78) refl)) ∙ shape (field number) (field length_p) (cond marked 89 78) (letters_of p)
     where
       shape : (a b : List ℕ) (c : ℕ) (d : List ℕ) → length ((80 ∷ 44 ∷ []) ++ a ++ b ++ (c ∷ 44 ∷ []) ++ d ++ (10 ∷ [])) ≡ 5 + length a + length b + length d
       shape a b c d = simp length-append (omega arith)

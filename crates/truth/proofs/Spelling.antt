@@ -1,10 +1,10 @@
 -- The characters of a formula's steps, one after the other. Assumes nothing.
-use Rattle.std.proofs.Common.{◌≡◌, ℕ, zero, suc, ◌+◌, ◌<◌, ◌≤◌, ◌⊎◌, List, [], ◌∷◌, ◌++◌, length, get_or, take, sym, refl, ap, ◌∙◌, subst, ⊎_elim, append_assoc, arith}
+use Rattle.std.proofs.Common.{◌≡◌, ℕ, zero, suc, ◌+◌, ◌<◌, List, [], ◌∷◌, ◌++◌, length, get_or, take, sym, refl, ap, ◌∙◌, subst, ⊎_elim, append_assoc, arith}
 use Rattle.std.proofs.lemmas.List.{take_more}
 use Rattle.formula.specs.declared.steps.Operator.{Operator}
 use Rattle.formula.specs.declared.steps.Operator.TheVariants.{And, Xor, Or, Implies, Iff}
 use Rattle.formula.specs.declared.steps.Step.{Step}
-use Rattle.formula.specs.declared.steps.Step.TheVariants.{Load, Negate, Apply}
+use Rattle.formula.specs.declared.steps.Step.TheVariants.{Negate, Apply}
 use Rattle.formula.specs.Notation.{Shows}
 use Rattle.formula.specs.Grammar.{Tree, postfix, Derives, single, negated, bracket, looser, chained, once}
 use Rattle.truth.specs.Report.{Symbols, Marks, Appended, Known}

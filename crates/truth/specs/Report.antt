@@ -1,5 +1,5 @@
 -- What the program prints for a text.
-use Rattle.std.specs.Prelude.{◌≡◌, ℕ, ◌-◌, ◌<◌, ◌≤◌, cond, ◌⊎◌, List, [], ◌∷◌, ◌++◌, length, take, Ok, Err, codes, decimal, Result, ◌==◌, slice_index}
+use Rattle.std.specs.Prelude.{◌≡◌, ℕ, ◌-◌, ◌≤◌, cond, ◌⊎◌, List, [], ◌∷◌, ◌++◌, length, take, Ok, Err, codes, decimal, Result, ◌==◌, slice_index}
 use Rattle.diagram.specs.declared.Node.{Node}
 use Rattle.formula.specs.declared.steps.Step.{Step}
 use Rattle.formula.specs.Notation.{Shows}

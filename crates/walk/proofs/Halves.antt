@@ -1,9 +1,9 @@
 -- A walk that takes one half after the other and makes a node of the two, whatever function it is for. Assumes nothing.
-use Rattle.std.proofs.Common.{◌≡◌, ℕ, ◌+◌, ◌<◌, ◌≤◌, List, Ok, Err, sym, ap, ◌∙◌, subst, arith}
+use Rattle.std.proofs.Common.{◌≡◌, ℕ, ◌+◌, ◌<◌, ◌≤◌, List, Ok, Err, ap, ◌∙◌, subst, arith}
 use Rattle.diagram.specs.declared.Node.{Node}
-use Rattle.diagram.specs.Functions.{Fun, Restriction, choice}
-use Rattle.diagram.specs.Nodes.{Issued, meaning, level_of, WellFormed, Split, Stands}
-use Rattle.diagram.specs.Outcomes.{Denies, Gives}
+use Rattle.diagram.specs.Functions.{Fun, choice}
+use Rattle.diagram.specs.Nodes.{meaning, WellFormed, Split, Stands}
+use Rattle.diagram.specs.Outcomes.{Gives}
 use Rattle.diagram.proofs.Restrictions.{Sides}
 use Rattle.diagram.proofs.Tables.{level_most, split_sides}
 use Rattle.diagram.proofs.Growth.{extends_self, stands_kept, stands_own}

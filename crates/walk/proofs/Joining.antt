@@ -1,5 +1,5 @@
 -- The descent of a joining. Assumes nothing.
-use Rattle.std.proofs.Common.{◌≡◌, ℕ, ◌+◌, ◌-◌, ◌<◌, ◌≤◌, min, List, None, inl, inr, arith}
+use Rattle.std.proofs.Common.{◌≡◌, ℕ, ◌-◌, ◌<◌, ◌≤◌, min, List, None, inl, inr, arith}
 use Rattle.std.proofs.lemmas.Bool.{cases_lt}
 use Rattle.diagram.specs.declared.Node.{Node}
 use Rattle.diagram.specs.Nodes.{Issued, meaning, level_of, WellFormed, Extends, Split}

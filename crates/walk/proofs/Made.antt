@@ -1,17 +1,16 @@
 -- What follows from a table's answers. Assumes nothing.
-use Rattle.std.proofs.Common.{◌≡◌, ℕ, ◌+◌, ◌<◌, ◌≤◌, ◌⊎◌, List, [], ◌∷◌, Ok, Err, Result, sym, refl, ap, ◌∙◌, subst, inl, inr, arith}
+use Rattle.std.proofs.Common.{◌≡◌, ℕ, ◌+◌, ◌<◌, ◌≤◌, List, [], ◌∷◌, Ok, Err, Result, sym, refl, ap, ◌∙◌, subst, inl, inr, arith}
 use Rattle.std.proofs.lemmas.Bool.{cases_lt}
 use Rattle.diagram.specs.declared.Node.{Node}
-use Rattle.diagram.specs.Functions.{Restriction, choice}
+use Rattle.diagram.specs.Functions.{choice}
 use Rattle.diagram.specs.Nodes.{Issued, meaning, level_of, At, Fit, WellFormed, Split, Stands}
-use Rattle.diagram.specs.Outcomes.{Denies, Gives}
 use Rattle.diagram.proofs.Settings.{choice_same}
 use Rattle.diagram.proofs.Tables.{node_function, level_constant, level_at, level_most, split_at, split_none, newest_node}
 use Rattle.diagram.proofs.Growth.{extends_self}
 use Rattle.diagram.proofs.Account.{gives_held, entered_gives, absent_denies}
 use Rattle.table.specs.declared.faults.TableFault.{TableFault}
 use Rattle.table.specs.Model.{Sound, Got, Found, Entered, Inserted}
-use Rattle.walk.specs.Outcomes.{Refused, Walked}
+use Rattle.walk.specs.Outcomes.{Walked}
 
 -- An issued handle without a node is a constant.
 pub gotten_none : {N : ℕ} {ns : List Node} {h : ℕ} {e : TableFault} → Issued ns h → Got N ns h (Err e) → h < 2

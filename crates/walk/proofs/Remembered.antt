@@ -4,7 +4,7 @@ use Rattle.diagram.specs.declared.Node.{Node}
 use Rattle.diagram.specs.Functions.{Fun}
 use Rattle.diagram.specs.Nodes.{Issued, meaning, level_of, Extends, Stands}
 use Rattle.diagram.specs.Counts.{HasHandle}
-use Rattle.diagram.proofs.Growth.{issued_kept, meaning_kept, level_kept, stands_kept, has_handle_kept, extends_self}
+use Rattle.diagram.proofs.Growth.{issued_kept, meaning_kept, level_kept, stands_kept, has_handle_kept}
 use Rattle.implicant.specs.Variables.{condition, ArePrimes, PrimeRestrictions}
 use Rattle.walk.specs.declared.ops.Op.{Op}
 use Rattle.walk.specs.declared.cache.Task.{Task}

@@ -3,7 +3,7 @@ use Rattle.std.proofs.Common.{◌≡◌, ℕ, ◌-◌, ◌<◌, ◌≤◌, Bool,
 use mathlib.Core.Path.{fun_ext}
 use Rattle.std.proofs.lemmas.Bool.{ne_eqb}
 use Rattle.diagram.specs.declared.Node.{Node}
-use Rattle.diagram.specs.Functions.{Setting, Fun, choice, put, Ignores}
+use Rattle.diagram.specs.Functions.{Setting, Fun, put, Ignores}
 use Rattle.diagram.specs.Nodes.{Issued, meaning, level_of, WellFormed, Extends, Split, Stands}
 use Rattle.diagram.proofs.Settings.{put_other, choice_low, choice_high}
 use Rattle.diagram.proofs.Restrictions.{Sides}

@@ -1,16 +1,16 @@
 -- Answers that need no descent. Assumes nothing.
-use Rattle.std.proofs.Common.{◌≡◌, ℕ, ◌<◌, ◌≤◌, min, Bool, true, false, cond, not, eqb, List, Some, None, Option, sym, refl, ap, ◌∙◌, subst, arith}
+use Rattle.std.proofs.Common.{◌≡◌, ℕ, ◌<◌, ◌≤◌, Bool, true, false, cond, not, eqb, List, Some, None, Option, sym, refl, ap, ◌∙◌, arith}
 use mathlib.Core.Path.{fun_ext}
 use mir.Val.{bool_byte}
 use Rattle.std.proofs.lemmas.Bool.{true≢false}
 use Rattle.std.proofs.lemmas.Bool.Decides.{nat_tests}
 use Rattle.diagram.specs.declared.Node.{Node}
 use Rattle.diagram.specs.Functions.{Fun}
-use Rattle.diagram.specs.Nodes.{Issued, meaning, level_of, WellFormed, Stands}
+use Rattle.diagram.specs.Nodes.{meaning, Stands}
 use Rattle.diagram.proofs.Tables.{level_constant, meaning_constant, level_most}
 use Rattle.walk.specs.declared.ops.Op.{Op}
 use Rattle.walk.specs.declared.ops.Op.TheVariants.{And, Or, Xor, Implies, Iff, AndNot}
-use Rattle.walk.specs.Ops.{answer, joined}
+use Rattle.walk.specs.Ops.{answer}
 use Rattle.walk.specs.Shortcuts.{Simple, Short}
 
 -- A constant's handle.

@@ -1,6 +1,5 @@
 use Rattle.std.proofs.Common.{◌∷◌, length, sym, refl, ap, ◌∙◌, arith, rules}
 use Rattle.std.proofs.lemmas.Result.{err_from_is_err_and}
-use Rattle.card_text.specs.Faults.{long}
 use Rattle.card_text.proofs.Walk.{arrived_more, refused, ended, no_end}
 use Rattle.card_text.proofs.Tails.{card_tail}
 use Rattle.card_text.proofs.reader.read_card.Goals as goal

@@ -1,4 +1,4 @@
-use Rattle.std.proofs.Common.{◌≡◌, arith, rules}
+use Rattle.std.proofs.Common.{arith, rules}
 use Rattle.std.proofs.lemmas.List.{take_rest}
 use Rattle.card_text.proofs.Lines.{feed_inside, unread_line, begins_line, past_end}
 use Rattle.card_text.proofs.records.record_at.Goals as goal

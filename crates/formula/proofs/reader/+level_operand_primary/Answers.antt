@@ -1,8 +1,8 @@
-use Rattle.std.proofs.Common.{◌≡◌, ◌<◌, ◌≤◌, length, get_or, sym, refl, ap, ◌∙◌, subst, ⊎_elim, arith, rules}
+use Rattle.std.proofs.Common.{get_or, sym, ◌∙◌, arith}
 use borrow.Author.Tests.{true-leb, false-leb}
 use Rattle.std.proofs.lemmas.Result.{err_from_is_err_and}
 use Rattle.formula.proofs.Notes.{strength_bounds}
-use Rattle.formula.proofs.Derive.{leaf_read, bracket_read, operand_read, begun, ended, one_more, same_strength, after_cases}
+use Rattle.formula.proofs.Derive.{leaf_read, bracket_read, operand_read, ended, one_more, same_strength, after_cases}
 use Rattle.formula.proofs.Fail.{fails_in, frame_weak, frame_negations, frame_bracket, frame_infix, fail_operand, fail_deep, fail_after, no_start}
 use Rattle.formula.proofs.reader.+level_operand_primary.Goals as goal
 use Rattle.formula.proofs.reader.+level_operand_primary.Goals.{level-then-k-floor-via-then-k-floor, level-then-k-floor-via-else-k-floor+then-k-top, primary-then-q-text+in_default-classify, primary-else-q-text}

@@ -1,4 +1,4 @@
-use Rattle.std.proofs.Common.{ℕ, ◌+◌, ◌*◌, ◌≤◌, length, sym, ap, ◌∙◌, subst, arith}
+use Rattle.std.proofs.Common.{ℕ, ◌+◌, ◌*◌, ◌≤◌, sym, ap, ◌∙◌, subst, arith}
 use mathlib.Core.Logic.{∥∥₁_map}
 use Rattle.diagram.specs.Nodes.{WellFormed}
 use Rattle.packed.specs.Layout.{size_of, chain_of}

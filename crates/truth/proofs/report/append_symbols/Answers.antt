@@ -1,4 +1,4 @@
-use Rattle.std.proofs.Common.{vec_items, subst, arith, rules}
+use Rattle.std.proofs.Common.{vec_items, subst, rules}
 use Rattle.std.proofs.lemmas.List.{take_all}
 use Rattle.truth.specs.Report.{Appended}
 use Rattle.truth.proofs.Spelling.{appended_more}
