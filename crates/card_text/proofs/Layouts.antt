@@ -1,6 +1,6 @@
 -- Cards are the texts that are written as a card. Assumes nothing.
 use Rattle.std.proofs.Common.{◌≡◌, ℕ, ◌+◌, ◌<◌, ◌≤◌, true, false, ◌⊎◌, List, [], ◌∷◌, ◌++◌, length, codes, sym, refl, ap, ◌∙◌, subst, inl, inr, append_assoc, append-nil, arith, length-append}
-use Rattle.std.specs.List.{AllByRecursion as All}
+use Rattle.std.specs.List.{AllByRecursion}
 use Rattle.std.proofs.ByRecursion.{All-push, All-weaker, All-append}
 use Rattle.std.proofs.lemmas.List.{length_push}
 use Rattle.card_text.specs.declared.state.Stage.TheVariants.{Start, Options, Uses}
@@ -67,7 +67,7 @@ fronted (end_row ∷ rows) good e = absurd e
 record Body (rows : List Row) : Type 0 where
   front : Fronted rows
   holds : spelled rows ≡ front_lines rows ++ use_lines (formulas rows)
-  meant : All (Usable (length (option_names rows))) (formulas rows)
+  meant : AllByRecursion (Usable (length (option_names rows))) (formulas rows)
 
 early_body : (rows : List Row) → Good rows → Before rows → formulas rows ≡ [] → Body rows
 early_body rows good e none =
@@ -75,7 +75,7 @@ early_body rows good e none =
     record {
       front = f.0;
       holds = f.1 ∙ sym (append-nil (front_lines rows)) ∙ ap (λ x. front_lines rows ++ use_lines x) (sym none);
-      meant = subst (All (Usable (length (option_names rows)))) (sym none) tt;
+      meant = subst (AllByRecursion (Usable (length (option_names rows)))) (sym none) tt;
     }
 
 body : (rows : List Row) → Good rows → Opened (stage_after rows) → Body rows
@@ -123,18 +123,18 @@ pub card_written : CardsAreWritten
 card_written text rows c = is_written text rows c.short c.holds c.good (subst Ended (sym c.ended) tt)
 
 -- every formula of a card is one, and no longer than the text
-lines_long : (fs : List (List ℕ)) → All (λ f. length f ≤ length (use_lines fs)) fs
+lines_long : (fs : List (List ℕ)) → AllByRecursion (λ f. length f ≤ length (use_lines fs)) fs
 lines_long [] = tt
 lines_long (f ∷ fs) =
     let whole = length-append (line (use_row f)) (use_lines fs) in
     let first = length-append f (10 ∷ []) in
     (omega (arith, whole, first), All-weaker (λ g. length g ≤ length (use_lines fs)) (λ g. length g ≤ length (use_lines (f ∷ fs))) (λ g le. omega (arith, whole, le)) fs (lines_long fs))
 
-all_both : {X : Type 0} (P Q : X → Type 0) (xs : List X) → All P xs → All Q xs → All (λ x. P x × Q x) xs
+all_both : {X : Type 0} (P Q : X → Type 0) (xs : List X) → AllByRecursion P xs → AllByRecursion Q xs → AllByRecursion (λ x. P x × Q x) xs
 all_both P Q [] p q = tt
 all_both P Q (x ∷ xs) p q = ((p.0, q.0), all_both P Q xs p.1 q.1)
 
-pub formulas_read : (text : List ℕ) (rows : List Row) → IsCard text rows → All (λ f. IsFormula f × (length f ≤ 4096)) (formulas rows)
+pub formulas_read : (text : List ℕ) (rows : List Row) → IsCard text rows → AllByRecursion (λ f. IsFormula f × (length f ≤ 4096)) (formulas rows)
 formulas_read text rows c =
     let w = card_written text rows c in
     let fs = formulas rows in
@@ -146,7 +146,7 @@ formulas_read text rows c =
     all_both IsFormula (λ f. length f ≤ 4096) fs (All-weaker (Usable (length (option_names rows))) IsFormula (λ f u. u.reads) fs w.meant) (All-weaker (λ f. length f ≤ length (use_lines fs)) (λ f. length f ≤ 4096) (λ f le. omega (arith, le, short)) fs (lines_long fs))
 
 -- the other way: rows for what is written
-plain_feed : (l : List ℕ) → All Plain l → NoFeed l
+plain_feed : (l : List ℕ) → AllByRecursion Plain l → NoFeed l
 plain_feed l h = All-weaker Plain (λ b. b ≡ 10 → ⊥) (λ b p e. omega (arith, p.low)) l h
 
 record Opted (rows : List Row) (ns : List (List ℕ)) : Type 0 where
@@ -194,7 +194,7 @@ record Used (rows : List Row) (fs : List (List ℕ)) : Type 0 where
   named : option_names out ≡ option_names rows
   used : formulas out ≡ formulas rows ++ fs
 
-used : (fs : List (List ℕ)) (rows : List Row) → Good rows → (stage_after rows ≡ Options) ⊎ (stage_after rows ≡ Uses) → (stage_after rows ≡ Uses) ⊎ (0 < length fs) → All (Usable (length (option_names rows))) fs → Used rows fs
+used : (fs : List (List ℕ)) (rows : List Row) → Good rows → (stage_after rows ≡ Options) ⊎ (stage_after rows ≡ Uses) → (stage_after rows ≡ Uses) ⊎ (0 < length fs) → AllByRecursion (Usable (length (option_names rows))) fs → Used rows fs
 used [] rows good at (inl e) meant = record {
   out = rows;
   good = good;
@@ -227,7 +227,7 @@ written_card text title names fs w =
     let feed : NoFeed (spell first) = All-append _ (codes "CARD,1,") title (word_feed (codes "CARD,1,") tt) (plain_feed title w.titled.plain) in
     let sound : Sound Start [] first = record { fits = refl; ruled = w.titled; meant = tt } in
     let o = opted names (first ∷ []) (tt, feed, sound) refl w.named (omega (arith, w.few)) in
-    let u = used fs o.out o.good (inl o.at) (inr w.some) (subst (λ l. All (Usable (length l)) fs) (sym o.named) w.meant) in
+    let u = used fs o.out o.good (inl o.at) (inr w.some) (subst (λ l. AllByRecursion (Usable (length l)) fs) (sym o.named) w.meant) in
     let last : Sound (stage_after u.out) (option_names u.out) end_row = record { fits = u.at; ruled = tt; meant = tt } in
     let front : spelled u.out ≡ (line first ++ opt_lines 97 names) ++ use_lines fs = u.holds ∙ ap (λ x. x ++ use_lines fs) o.holds in (
       end_row ∷ u.out,

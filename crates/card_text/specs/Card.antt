@@ -1,6 +1,6 @@
 -- Which texts are cards. Rows are listed the newest first, so that every definition recurses on them.
 use Rattle.std.specs.Prelude.{◌≡◌, ℕ, ◌+◌, ◌<◌, ◌≤◌, ◌⊎◌, List, [], ◌∷◌, ◌++◌, length, ◌≢◌}
-use Rattle.std.specs.List.{AllByRecursion as All}
+use Rattle.std.specs.List.{AllByRecursion}
 use Rattle.formula.specs.Grammar.{Tree, Derives}
 use Rattle.card_text.specs.Grammar.{Row, card_row, opt_row, use_row, end_row, spell, NoFeed, Begins}
 use Rattle.card_text.specs.declared.state.Stage.{Stage}
@@ -89,11 +89,11 @@ pub record Plain (b : ℕ) : Type 0 where
 pub record Within (least most : ℕ) (bytes : List ℕ) : Type 0 where
   pub long : least ≤ length bytes
   pub short : length bytes ≤ most
-  pub plain : All Plain bytes
+  pub plain : AllByRecursion Plain bytes
 
 -- the name repeats no earlier one
 abbrev pub Fresh : List (List ℕ) → List ℕ → Type 0
-Fresh earlier name = All (λ other. other ≢ name) earlier
+Fresh earlier name = AllByRecursion (λ other. other ≢ name) earlier
 
 -- titles have 0 to 40 bytes; names have 1 to 20 and differ from those before
 abbrev pub Ruled : List (List ℕ) → Row → Type 0
@@ -113,7 +113,7 @@ Loose k b = (97 + k ≤ b) × (b ≤ 108)
 
 -- every letter is one of the first k options
 abbrev pub AllGiven : ℕ → List ℕ → Type 0
-AllGiven k formula = All (λ b. Loose k b → ⊥) formula
+AllGiven k formula = AllByRecursion (λ b. Loose k b → ⊥) formula
 
 -- a USE has a formula over the options of the card
 abbrev pub Meant : List (List ℕ) → Row → Type 0

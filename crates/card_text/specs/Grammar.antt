@@ -1,6 +1,6 @@
 -- The records of a card, and how each is written.
 use Rattle.std.specs.Prelude.{◌≡◌, ℕ, List, ◌∷◌, ◌++◌, codes, ◌≢◌}
-use Rattle.std.specs.List.{AllByRecursion as All}
+use Rattle.std.specs.List.{AllByRecursion}
 
 -- a record by what its fields hold: a title; a letter and a name; a formula; nothing
 pub data Row : Type 0 where
@@ -18,7 +18,7 @@ spell end_row = codes "END"
 
 -- none of the bytes is a line feed
 abbrev pub NoFeed : List ℕ → Type 0
-NoFeed bytes = All (λ b. b ≢ 10) bytes
+NoFeed bytes = AllByRecursion (λ b. b ≢ 10) bytes
 
 -- the text begins with the record and its line feed, and `more` stands behind them
 pub record Begins (text : List ℕ) (row : Row) (more : List ℕ) : Type 0 where

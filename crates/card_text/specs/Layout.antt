@@ -1,6 +1,6 @@
 -- A card as it is written: from its title, names and formulas, in the order of the text.
 use Rattle.std.specs.Prelude.{◌≡◌, ℕ, ◌+◌, ◌<◌, ◌≤◌, List, [], ◌∷◌, ◌++◌, length}
-use Rattle.std.specs.List.{AllByRecursion as All}
+use Rattle.std.specs.List.{AllByRecursion}
 use Rattle.card_text.specs.Grammar.{Row, card_row, opt_row, use_row, end_row, spell}
 use Rattle.card_text.specs.Card.{Within, Fresh, IsFormula, AllGiven, IsCard, card_title, option_names, formulas}
 
@@ -36,7 +36,7 @@ pub record Written (text : List ℕ) (title : List ℕ) (names fs : List (List �
   pub few : length names ≤ 12
   pub named : Named [] names
   pub some : 0 < length fs
-  pub meant : All (Usable (length names)) fs
+  pub meant : AllByRecursion (Usable (length names)) fs
 
 -- every card is written so
 abbrev pub CardsAreWritten : Type 0
