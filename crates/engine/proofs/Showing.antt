@@ -1,5 +1,5 @@
 -- A card that is read and listed within one call. Assumes nothing.
-use Rattle.std.proofs.Common.{◌≡◌, ℕ, ◌+◌, ◌≤◌, ◌⊎◌, List, [], ◌∷◌, arith, length, Ok, Err, Result, sym, refl, ap, ◌∙◌, subst, inl, inr, ⊎_elim}
+use Rattle.std.proofs.Common.{◌≡◌, ℕ, ◌+◌, ◌⊎◌, List, length, Ok, Err, Result, sym, refl, ap, ◌∙◌, subst, inl, inr, ⊎_elim}
 use Rattle.diagram.specs.declared.Node.{Node}
 use Rattle.diagram.specs.Functions.{Fun}
 use Rattle.diagram.specs.Nodes.{Issued, meaning}
@@ -14,8 +14,8 @@ use Rattle.implicant.specs.Variables.{condition_of, SignsOnly, ArePrimes}
 use Rattle.table.specs.Model.{oldest}
 use Rattle.formula.specs.Grammar.{Tree}
 use Rattle.listing.specs.declared.faults.ListFault.{ListFault}
-use Rattle.card_text.specs.Grammar.{Row, card_row, opt_row, use_row, end_row}
-use Rattle.card_text.specs.Card.{Good, IsCard, formulas, card_title}
+use Rattle.card_text.specs.Grammar.{Row}
+use Rattle.card_text.specs.Card.{IsCard, formulas, card_title}
 use Rattle.card_walk.specs.Sums.{TreesOf, some_of}
 use Rattle.card_walk.specs.Shown.{CardWritten}
 use Rattle.card_walk.proofs.Signs.{some_signs}
@@ -27,15 +27,7 @@ use Rattle.engine.specs.Calls.{Given, Made, Primed, PrimesOut}
 use Rattle.engine.specs.Shows.{ShowOut}
 use Rattle.engine.proofs.Again.{guarded_met}
 
--- A title is no longer than the rules allow.
-pub title_short : (rows : List Row) → Good rows → length (card_title rows) ≤ 40
-title_short [] g = omega arith
-title_short (card_row title ∷ rows) g = g.2.ruled.short
-title_short (opt_row letter name ∷ rows) g = title_short rows g.0
-title_short (use_row formula ∷ rows) g = title_short rows g.0
-title_short (end_row ∷ rows) g = title_short rows g.0
-
--- The same, of a table whose size is another name for one number, of a title that is another name, of an answer that is.
+-- The same facts of an equal size, of an equal title and of an equal answer.
 pub primes_within : {N M h : ℕ} {mid new : List Node} {r : Result ℕ GraphFault} → M ≡ N → PrimesOut M h mid r new → PrimesOut N h mid r new
 primes_within {h = h} {mid = mid} {new = new} {r = r} e p = subst (λ (n : ℕ). PrimesOut n h mid r new) e p
 

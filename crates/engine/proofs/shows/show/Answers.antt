@@ -1,8 +1,9 @@
 use Rattle.std.proofs.Common.{ℕ, ◌≤◌, List, length, Err, refl, sym, ap, ◌∙◌, subst, inr, arith}
 use Rattle.std.proofs.lemmas.Result.{err_from_is_err_and}
 use Rattle.card_text.specs.Card.{formulas}
+use Rattle.card_text.proofs.Layouts.{card_written}
 use Rattle.card_walk.proofs.Trees.{card_trees}
-use Rattle.engine.proofs.Showing.{title_short, primes_within, retitled, answered, show_full, show_crowded, shown_issued, shown_primes, show_wrote, show_short}
+use Rattle.engine.proofs.Showing.{primes_within, retitled, answered, show_full, show_crowded, shown_issued, shown_primes, show_wrote, show_short}
 use Rattle.engine.proofs.shows.show.Goals as goal
 
 pub returns-in_err-outline : goal.returns-in_err-outline
@@ -41,12 +42,12 @@ write_card-requires g c =
     let made = c.in_ok-condition.ensures in
     let sum = made.out (formulas o.rows) t.0 o.tail t.1 in
     let p = primes_within made.size c.in-Ok.ensures.out in
-    let few = title_short o.rows o.card.good in
+    let titled = (card_written c.args.text.now o.rows o.card).titled in
     record {
       sound = c.len.ensures.sound;
       issued = shown_issued _ _ _ c.args.out.now o.rows o.card t.0 t.1 _ _ sum c.in-Ok.set _ p;
       primes = shown_primes _ _ _ c.args.out.now o.rows o.card t.0 t.1 _ _ sum c.in-Ok.set _ p;
-      short = subst (λ (x : List ℕ). length x ≤ 4096) (sym o.title_is) (omega (arith, few));
+      short = subst (λ (x : List ℕ). length x ≤ 4096) (sym o.title_is) (omega (arith, titled.short));
     }
 
 pub returns-in-Ok-write_card : goal.returns-in-Ok-write_card
