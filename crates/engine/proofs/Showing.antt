@@ -27,15 +27,12 @@ use Rattle.engine.specs.Calls.{Given, Made, Primed, PrimesOut}
 use Rattle.engine.specs.Shows.{ShowOut}
 use Rattle.engine.proofs.Again.{guarded_met}
 
--- The same facts of an equal size, of an equal title and of an equal answer.
+-- The same facts of an equal size and of an equal title.
 pub primes_within : {N M h : ℕ} {mid new : List Node} {r : Result ℕ GraphFault} → M ≡ N → PrimesOut M h mid r new → PrimesOut N h mid r new
 primes_within {h = h} {mid = mid} {new = new} {r = r} e p = subst (λ (n : ℕ). PrimesOut n h mid r new) e p
 
 pub retitled : {x y : List ℕ} {g : Fun} {r : Result ℕ ListFault} {old new : List ℕ} → x ≡ y → CardWritten x g r old new → CardWritten y g r old new
 retitled {g = g} {r = r} {old = old} {new = new} e w = subst (λ (x : List ℕ). CardWritten x g r old new) e w
-
-pub answered : {N : ℕ} {text before after : List ℕ} {old new : List Node} {r s : Result ℕ CardFault} → r ≡ s → ShowOut N text old before r new after → ShowOut N text old before s new after
-answered {N = N} {text = text} {before = before} {after = after} {old = old} {new = new} e o = subst (λ (r : Result ℕ CardFault). ShowOut N text old before r new after) e o
 
 -- Two calls one after the other as one: P is made first, then Q.
 module _ {N : ℕ} {P Q : Fun → Type 0} {old mid : List Node} (first : Granted N P old mid) where
@@ -79,12 +76,12 @@ module _ (N : ℕ) (text : List ℕ) (old : List Node) (before : List ℕ) (rows
   primed : (r : Result ℕ GraphFault) (new : List Node) → PrimesOut N h mid r new → Primed N h mid r new
   primed r new p = guarded_met _ _ _ mid new r signs (guarded_met _ _ _ mid new r given.issued p.outcome)
 
-  pub show_crowded : (e : GraphFault) (count : ℕ) (wide new : List Node) → count ≡ length old → PrimesOut N h mid (Err e) wide → new ≡ oldest count wide → ShowOut N text old before (Err (Graph e)) new before
-  show_crowded e count wide new c p cut =
+  pub show_crowded : (e : GraphFault) (r : Result ℕ CardFault) (count : ℕ) (wide new : List Node) → r ≡ Err (Graph e) → count ≡ length old → PrimesOut N h mid (Err e) wide → new ≡ oldest count wide → ShowOut N text old before r new before
+  show_crowded e r count wide new is c p cut =
       let o = (primed (Err e) wide p).made.outcome in
       let many = subst (λ (f : Fun). AtLeast (N + 1) mid (Working (primes_of f))) given.means o.many in
       let kept = cut ∙ ap (oldest count) o.kept ∙ cut_back old mid count given.granted.grows.extends c in
-      record { outcome = inl (record { rows = rows; card = card; trees = ts; are = are; writing = inl (record { many = many_then given.granted many; is = ap (λ x. Err (Graph x)) o.is; nodes = kept; output = refl }) }) }
+      record { outcome = inl (record { rows = rows; card = card; trees = ts; are = are; writing = inl (record { many = many_then given.granted many; is = is ∙ ap (λ x. Err (Graph x)) o.is; nodes = kept; output = refl }) }) }
 
   module _ (set : ℕ) (wide : List Node) (p : PrimesOut N h mid (Ok set) wide) where
     found : Given N (primes_of (meaning mid h)) (primed (Ok set) wide p).set mid set wide

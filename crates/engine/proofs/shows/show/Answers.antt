@@ -3,7 +3,7 @@ use Rattle.std.proofs.lemmas.Result.{err_from_is_err_and}
 use Rattle.card_text.specs.Card.{formulas}
 use Rattle.card_text.proofs.Layouts.{card_written}
 use Rattle.card_walk.proofs.Trees.{card_trees}
-use Rattle.engine.proofs.Showing.{primes_within, retitled, answered, show_full, show_crowded, shown_issued, shown_primes, show_wrote, show_short}
+use Rattle.engine.proofs.Showing.{primes_within, retitled, show_full, show_crowded, shown_issued, shown_primes, show_wrote, show_short}
 use Rattle.engine.proofs.shows.show.Goals as goal
 
 pub returns-in_err-outline : goal.returns-in_err-outline
@@ -88,7 +88,7 @@ returns-in-Err g c =
     let p = primes_within made.size c.in-Err.ensures.out in
     let cut = c.truncate-in-Err.ensures in
     record {
-      out = answered (ap Err (sym c.from.ensures)) (show_crowded _ _ _ _ o.rows o.card t.0 t.1 _ _ sum c.in-Err.e c.len-held.result _ _ c.len-held.ensures.value p cut.nodes);
+      out = show_crowded _ _ _ _ o.rows o.card t.0 t.1 _ _ sum c.in-Err.e _ c.len-held.result _ _ (ap Err c.from.ensures) c.len-held.ensures.value p cut.nodes;
       size = cut.size ∙ c.in-Err.ensures.size ∙ made.size;
       rest = cut.rest ∙ c.in-Err.ensures.rest ∙ made.rest;
       memory = cut.memory;
