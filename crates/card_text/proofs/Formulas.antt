@@ -1,5 +1,5 @@
 -- What is needed of formulas. Assumes nothing.
-use Rattle.std.proofs.Common.{◌≡◌, ℕ, ◌+◌, ◌<◌, ◌≤◌, List, ◌∷◌, length, sym, ap, ◌∙◌, subst, arith}
+use Rattle.std.proofs.Common.{◌≡◌, ℕ, ◌+◌, List, ◌∷◌, sym, ap, ◌∙◌, subst, arith}
 use Rattle.std.proofs.ByRecursion.{All-push, All-append}
 use Rattle.formula.specs.declared.faults.FormulaFault.{FormulaFault}
 use Rattle.formula.specs.declared.faults.FormulaFault.TheVariants.{TooLong, ForeignByte, Unexpected, TooDeep}
@@ -7,7 +7,6 @@ use Rattle.formula.specs.declared.steps.Token.{Token}
 use Rattle.formula.specs.declared.steps.Token.TheVariants.{Operand, Negation, Infix, Opening, Closing, Foreign}
 use Rattle.formula.specs.Notation.{notation}
 use Rattle.formula.specs.Grammar.{Tree, Derives, single, negated, bracket, looser, chained, once}
-use Rattle.formula.specs.Faults.{fault_place}
 use Rattle.formula.specs.Answer.{Broken, ForeignAt, TooDeepAt, Refused}
 use Rattle.card_text.specs.declared.faults.TextFault.{TextFault}
 use Rattle.card_text.specs.declared.faults.TextFault.TheVariants as text
@@ -34,16 +33,6 @@ formula_feed (bracket a b {bs = bs} e f q d) = (no_feed a Opening e tt, All-push
 formula_feed (looser d) = formula_feed d
 formula_feed (chained {k = k} b {op = op} {bs = bs} {cs = cs} e h l r) = All-append _ bs (b ∷ cs) (formula_feed l) (no_feed b (Infix k op) e tt, formula_feed r)
 formula_feed (once {k = k} b {op = op} {bs = bs} {cs = cs} e h l r) = All-append _ bs (b ∷ cs) (formula_feed l) (no_feed b (Infix k op) e tt, formula_feed r)
-
--- a text that is short is not too long, and its fault lies within it
-pub not_long : (bytes : List ℕ) (e : FormulaFault) → length bytes ≤ 4096 → Refused bytes e → e ≡ TooLong → ⊥
-not_long bytes e s r z = let long : 4096 < length bytes = subst (Refused bytes) z r in omega arith
-
-pub place_inside : (bytes : List ℕ) (e : FormulaFault) → length bytes ≤ 4096 → Refused bytes e → fault_place e ≤ length bytes
-place_inside bytes TooLong s r = omega arith
-place_inside bytes (ForeignByte p) s r = r.0.place.inside
-place_inside bytes (Unexpected p) s r = r.0.place.inside
-place_inside bytes (TooDeep p) s r = r.0.place.inside
 
 module _ (bytes : List ℕ) (at : ℕ) where
   -- a formula has no fault

@@ -1,5 +1,5 @@
 pub mod Lines
-pub mod Names
+pub mod Searches
 pub mod Formulas
 pub mod Once
 pub mod Walk

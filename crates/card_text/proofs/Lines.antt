@@ -1,6 +1,6 @@
-use Rattle.std.proofs.Common.{◌≡◌, ℕ, ◌+◌, ◌-◌, ◌<◌, ◌≤◌, Bool, true, false, cond, T, eqb, List, [], ◌∷◌, ◌++◌, length, get_or, take, drop, sym, refl, ap, ◌∙◌, subst, append_assoc, arith, length-append, length-drop, take-append-drop}
+use Rattle.std.proofs.Common.{◌≡◌, ℕ, ◌+◌, ◌-◌, ◌<◌, ◌≤◌, Bool, true, false, cond, T, eqb, List, [], ◌∷◌, ◌++◌, length, get_or, take, drop, sym, refl, ap, ◌∙◌, append_assoc, arith, length-append, length-drop, take-append-drop}
 use Rattle.std.proofs.lemmas.Bool.{eqb-false}
-use Rattle.std.proofs.lemmas.List.{drop_more, drop-drop, take_rest}
+use Rattle.std.proofs.lemmas.List.{drop_more, take_rest}
 use Rattle.card_text.specs.Grammar.{Row, spell, NoFeed, Begins}
 use Rattle.card_text.specs.Card.{spelled}
 use Rattle.card_text.specs.Reads.{NoRecord}
@@ -66,14 +66,6 @@ line_is text at n = let zero : n - 0 ≡ n = omega arith in ap (λ k. take k (re
 pub unread_line : (text : List ℕ) (at n : ℕ) → Ends text at n → ((row : Row) → line_of text at n ≡ spell row → ⊥) → NoRecord text at
 unread_line text at n ends none row more b =
     none row (line_is text at n ∙ on_line (rest_of text at) n row more ends.0 ends.1 ends.2 (record { line = take_rest text at ∙ b.line; whole = b.whole }))
-
-pub begins_line : (text : List ℕ) (at n : ℕ) (row : Row) → Ends text at n → line_of text at n ≡ spell row → Begins (drop at text) row (drop (at + n + 1) text)
-begins_line text at n row ends spelled =
-    let rest = rest_of text at in
-    let same : take n rest ≡ spell row = sym (line_is text at n) ∙ spelled in
-    let sum : at + (n + 1) ≡ at + n + 1 = omega arith in
-    let tail : drop (n + 1) rest ≡ drop (at + n + 1) text = ap (drop (n + 1)) (take_rest text at) ∙ drop-drop (n + 1) at text ∙ ap (λ k. drop k text) sum in
-    record { line = sym (take_rest text at) ∙ cut_at rest n ends.0 ends.1 ∙ (λ i. same i ++ 10 ∷ tail i); whole = subst NoFeed same ends.2 }
 
 -- nothing begins at the end of a text, or past it
 pub past_end : (text : List ℕ) (at : ℕ) → length text ≤ at → NoRecord text at

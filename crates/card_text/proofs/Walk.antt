@@ -8,7 +8,7 @@ use Rattle.card_text.specs.declared.state.Stage.TheVariants.{Done}
 use Rattle.card_text.specs.Grammar.{Row, card_row, opt_row, use_row, end_row, spell}
 use Rattle.card_text.specs.Card.{spelled, option_names, add_name, card_title, add_title, mark, front_rows, stage_after, Sound, Good, IsCard}
 use Rattle.card_text.specs.Faults.{Faulty, form, Upto, Refused, leftmost}
-use Rattle.card_text.specs.State.{held, Fair}
+use Rattle.card_text.specs.State.{held}
 use Rattle.card_text.specs.Steps.{Stepped}
 use Rattle.card_text.proofs.Lines.{past_end}
 
@@ -19,7 +19,6 @@ pub record Arrived (text : List ℕ) (at : ℕ) (seen : Seen) (rows : List Row) 
   pub good : Good rows
   pub stage_is : seen.stage ≡ stage_after rows
   pub held_is : held seen ≡ option_names rows
-  pub fair : Fair seen
   pub title_is : seen.title.now ≡ card_title rows
   pub uses_at : seen.uses ≡ length (spelled (front_rows rows))
   pub within : at ≤ length text
@@ -43,7 +42,6 @@ module _ (text : List ℕ) (at : ℕ) (seen : Seen) (rows : List Row) (a : Arriv
         good = (a.good, s.begins.whole, subst₂ (λ t g. Sound t g s.row) a.stage_is a.held_is s.sound);
         stage_is = s.stage_then;
         held_is = s.names_then ∙ ap (λ g. add_name g s.row) a.held_is;
-        fair = s.fair;
         title_is = s.title_then ∙ ap (λ t. add_title t s.row) a.title_is;
         uses_at = s.uses_then ∙ marked (front_rows rows) (s.row ∷ rows) s.row seen.uses to a.uses_at (sym there);
         within = s.inside;

@@ -1,11 +1,13 @@
 -- What reading a record, or a card, answers.
-use Rattle.std.specs.Prelude.{◌≡◌, ℕ, ◌+◌, ◌<◌, ◌≤◌, List, length, drop}
+use Rattle.std.specs.Prelude.{◌≡◌, ℕ, ◌+◌, ◌<◌, ◌≤◌, List, length, drop, Option, Some, None}
 use Rattle.card_text.specs.Grammar.{Row, card_row, opt_row, use_row, end_row, Begins}
 use Rattle.card_text.specs.Card.{IsCard, spelled, option_names, formulas, card_title, front_rows, Tail}
 use Rattle.card_text.specs.declared.records.Record.{Record}
 use Rattle.card_text.specs.declared.records.Record.TheVariants as record'
 use Rattle.card_text.specs.declared.records.Found.{Found}
+use Rattle.card_text.specs.declared.records.Part.{Part}
 use Rattle.card_text.specs.declared.records.Use.{Use}
+use Rattle.card_text.specs.declared.records.Uses.{Uses}
 use Rattle.card_text.specs.declared.reader.Outline.{Outline}
 
 -- the row that a record is
@@ -43,6 +45,11 @@ pub record UseAt (text : List ℕ) (at : ℕ) (u : Use) : Type 0 where
 -- no USE record begins at `at`
 abbrev pub NoUse : List ℕ → ℕ → Type 0
 NoUse text at = (formula more : List ℕ) → Begins (drop at text) (use_row formula) more → ⊥
+
+-- the formula of the USE record that begins where one is looked for, and where the next is looked for; or none begins there
+abbrev pub NextUse : Uses → Option Part → Uses → Type 0
+NextUse before None after = NoUse before.text.now before.at
+NextUse before (Some formula) after = UseAt before.text.now before.at (record { formula = formula; to = after.at }) × (after.text.now ≡ before.text.now)
 
 -- the text is a card, and these are its title, the number of its options, and the place of its first USE record
 pub record Outlined (text : List ℕ) (o : Outline) : Type 0 where

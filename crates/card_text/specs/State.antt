@@ -1,17 +1,12 @@
 -- What the reader keeps of a card; for the contracts of inner functions.
-use Rattle.std.specs.Prelude.{◌≡◌, ℕ, ◌+◌, ◌≤◌, List, map, length, take}
+use Rattle.std.specs.Prelude.{ℕ, ◌+◌, ◌≤◌, List, map, length}
 use Rattle.card_text.specs.declared.records.Record.{Record}
 use Rattle.card_text.specs.declared.records.Record.TheVariants.{Card, Opt, Use, End}
 use Rattle.card_text.specs.declared.state.Seen.{Seen}
 
 -- the names held, in the order of the text
 abbrev pub held : Seen → List (List ℕ)
-held seen = map (λ r. r.now) (take seen.options seen.names)
-
--- there are as many names as are counted
-pub record Fair (seen : Seen) : Type 0 where
-  pub few : seen.options ≤ 12
-  pub count : length (held seen) ≡ seen.options
+held seen = map (λ r. r.now) seen.names.items
 
 -- a formula ends within the first 4,096 bytes of the text
 abbrev pub Near : Record → Type 0

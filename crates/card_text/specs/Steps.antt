@@ -3,7 +3,7 @@ use Rattle.std.specs.Prelude.{◌≡◌, ℕ, ◌<◌, ◌≤◌, List, length, 
 use Rattle.card_text.specs.Grammar.{Row, Begins}
 use Rattle.card_text.specs.Card.{Sound, add_name, add_title, stage_of, mark}
 use Rattle.card_text.specs.Faults.{Faulty}
-use Rattle.card_text.specs.State.{held, Fair}
+use Rattle.card_text.specs.State.{held}
 use Rattle.card_text.specs.declared.faults.TextFault.{TextFault}
 use Rattle.card_text.specs.declared.state.Seen.{Seen}
 
@@ -14,7 +14,6 @@ pub record Stepped (text : List ℕ) (at : ℕ) (seen later : Seen) (to : ℕ) :
   pub sound : Sound seen.stage (held seen) row
   pub names_then : held later ≡ add_name (held seen) row
   pub stage_then : later.stage ≡ stage_of row
-  pub fair : Fair later
   pub title_then : later.title.now ≡ add_title seen.title.now row
   pub uses_then : later.uses ≡ mark seen.uses row to
   pub on : at < to

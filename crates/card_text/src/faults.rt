@@ -1,10 +1,11 @@
 ghost use Rattle.std.specs.Prelude.{◌≡◌};
 ghost use Rattle.card_text.specs.Faults.{text_number, text_place};
 
+// The bytes that a card may have: a limit of cards, and the same number as that of formulas by chance.
 pub const MAX_LENGTH: usize = 4096;
 
 // Why a text is no card; but for the first, each holds the place of the fault in that text.
-#[derive(Clone, Copy)]
+#[derive(Clone, Copy, PartialEq, Eq, Debug)]
 pub enum TextFault {
     TooLong,
     ForeignByte(usize),
@@ -15,7 +16,9 @@ pub enum TextFault {
     LooseLetter(usize),
 }
 
+// By number and place, since the C editor sees no enum.
 impl TextFault {
+    // The number by which callers in C and price lists know the fault.
     pub fn number(self) -> u8
         ensures { result ≡ text_number self }
     {

@@ -1,5 +1,5 @@
 // The rules of a record's fields.
-ghost use Rattle.std.specs.Prelude.{◌≡◌, ◌+◌, ◌≤◌, length, MatchBool, MatchOption, MatchResult, ◌≢◌};
+ghost use Rattle.std.specs.Prelude.{◌+◌, ◌≤◌, ◌↔◌, length, IsTrue, MatchOption, MatchResult, ◌≢◌};
 ghost use Rattle.formula.specs.Faults.{fault_place};
 ghost use Rattle.formula.specs.declared.faults.FormulaFault.TheVariants.{TooLong};
 ghost use Rattle.card_text.specs.Card.{Plain, Within, Loose, AllGiven, IsFormula};
@@ -8,24 +8,21 @@ ghost use Rattle.card_text.specs.Faults.{Moved, First, Misread};
 use crate::faults::TextFault;
 use formula::{Formula, FormulaFault};
 
-const BLANK: u8 = 32;
-
-const TILDE: u8 = 126;
-
 // Whether a title or a name may hold the byte.
 fn is_plain(b: u8) -> bool
-    ensures { MatchBool result (Plain b) (Plain b → ⊥) }
+    ensures { IsTrue result ↔ Plain b }
 {
-    BLANK <= b && b <= TILDE && b != b','
+    matches!(b, b' '..=b'~') && b != b','
 }
 
 // Whether a title or a name keeps its rule.
 pub fn keeps_rule(bytes: &[u8], least: usize, most: usize) -> bool
-    ensures { MatchBool result (Within least most bytes.now) (Within least most bytes.now → ⊥) }
+    ensures { IsTrue result ↔ Within least most bytes.now }
 {
     if bytes.len() < least || bytes.len() > most {
         return false;
     }
+    // A loop that leaves at the first offending byte: one of the forms that the code is to have (docs/DECISIONS.md).
     for b in bytes {
         if !is_plain(*b) {
             return false;
@@ -37,7 +34,7 @@ pub fn keeps_rule(bytes: &[u8], least: usize, most: usize) -> bool
 // Whether the byte is a letter of the notation that no OPT has given.
 fn is_loose(b: u8, options: usize) -> bool
     requires { options ≤ 12 }
-    ensures { MatchBool result (Loose options b) (Loose options b → ⊥) }
+    ensures { IsTrue result ↔ Loose options b }
 {
     97 + options <= b as usize && b <= b'l'
 }
@@ -47,12 +44,7 @@ fn loose_letter(formula: &[u8], options: usize) -> Option<usize>
     requires { options ≤ 12 }
     ensures { MatchOption result (AllGiven options formula.now) (λ i. First options formula.now i) }
 {
-    for (i, b) in formula.iter().enumerate() {
-        if is_loose(*b, options) {
-            return Some(i);
-        }
-    }
-    None
+    formula.iter().position(|b| is_loose(*b, options))
 }
 
 // A formula's fault, as seen from the text in which the formula begins at `at`.
@@ -75,9 +67,8 @@ pub fn judge_formula(formula: &[u8], at: usize, options: usize) -> Result<(), Te
     requires few { options ≤ 12 }
     ensures { MatchResult result (λ _. IsFormula formula.now × AllGiven options formula.now) (λ e. Misread options formula.now at e) }
 {
-    let mut steps = Formula::new();
-    match steps.read(formula) {
-        Ok(()) => match loose_letter(formula, options) {
+    match Formula::try_from(formula) {
+        Ok(_) => match loose_letter(formula, options) {
             Some(i) => Err(TextFault::LooseLetter(at + i)),
             None => Ok(()),
         },

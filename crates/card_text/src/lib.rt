@@ -10,5 +10,5 @@ mod theorems;
 
 pub use faults::TextFault;
 pub use reader::{Outline, read_card};
-pub use records::{Found, Part, Record, Use, record_at, use_at};
+pub use records::{Found, Part, Record, Use, Uses, record_at, use_at};
 pub use theorems::{cards_are_written, rules_are_exact};

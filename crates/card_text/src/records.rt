@@ -1,7 +1,8 @@
 // The records of a text, each found where it begins.
-ghost use Rattle.std.specs.Prelude.{◌≡◌, ℕ, ◌+◌, ◌^◌, ◌<◌, List, ◌++◌, length, take, MatchBool, MatchOption, ◌≢◌, slice_index};
+ghost use Rattle.std.specs.Prelude.{◌≡◌, ℕ, ◌+◌, ◌-◌, ◌^◌, ◌<◌, List, ◌++◌, length, take, MatchOption, ◌≢◌, slice_index};
 ghost use Rattle.card_text.specs.Grammar.{Row, opt_row, spell, NoFeed};
-ghost use Rattle.card_text.specs.Reads.{row_of, Placed, RecordAt, NoRecord, UseAt, NoUse};
+ghost use Rattle.card_text.specs.Reads.{row_of, Placed, RecordAt, NoRecord, UseAt, NoUse, NextUse};
+ghost use Rattle.std.specs.Iterator.{at_most};
 
 // A part of a text, with the place of its first byte.
 #[derive(Clone, Copy)]
@@ -36,26 +37,14 @@ pub struct Use<'a> {
 fn line_length(text: &[u8]) -> Option<usize>
     ensures { MatchOption result (NoFeed text.now) (λ n. (n < length text.now) × (slice_index text.now n ≡ 10) × NoFeed (take n text.now)) }
 {
-    for (i, b) in text.iter().enumerate() {
-        if *b == b'\n' {
-            return Some(i);
-        }
-    }
-    None
+    text.iter().position(|b| *b == b'\n')
 }
 
-// What stands behind a word at the start of a line.
+// What stands behind a word at the start of a line; what `strip_prefix` says of it is proved once, here.
 fn behind<'a>(line: &'a [u8], word: &[u8]) -> Option<&'a [u8]>
     ensures { MatchOption result ((rest : List ℕ) → line.now ≢ word.now ++ rest) (λ x. line.now ≡ word.now ++ x.now) }
 {
     line.strip_prefix(word)
-}
-
-// Whether the line is the word and nothing else.
-fn is_word(line: &[u8], word: &[u8]) -> bool
-    ensures { MatchBool result (line.now ≡ word.now) (line.now ≢ word.now) }
-{
-    line == word
 }
 
 // The letter and the name, where the line is an OPT record.
@@ -99,11 +88,7 @@ fn record_on(line: &[u8], at: usize) -> Option<Record<'_>>
             },
         });
     }
-    if is_word(line, b"END") {
-        Some(Record::End)
-    } else {
-        None
-    }
+    (line == b"END".as_slice()).then_some(Record::End)
 }
 
 // The record that begins at `at` and ends with a line feed, whatever stands before it.
@@ -126,14 +111,39 @@ pub fn record_at(text: &[u8], at: usize) -> Option<Found<'_>>
 pub fn use_at(text: &[u8], at: usize) -> Option<Use<'_>>
     ensures { MatchOption result (NoUse text.now at) (λ u. UseAt text.now at u) }
 {
-    match record_at(text, at) {
-        Some(found) => match found.record {
-            Record::Use { formula } => Some(Use {
-                formula,
-                to: found.to,
-            }),
-            _ => None,
-        },
-        None => None,
+    let Found { record, to } = record_at(text, at)?;
+    match record {
+        Record::Use { formula } => Some(Use { formula, to }),
+        _ => None,
+    }
+}
+
+// The formulas of the USE records that follow one another from `at` on.
+#[derive(Drop)]
+pub struct Uses<'a> {
+    pub text: &'a [u8],
+    pub at: usize,
+}
+
+impl<'a> Uses<'a> {
+    pub fn new(text: &'a [u8], at: usize) -> Self
+        ensures text { result.text.now ≡ text.now }
+        ensures at { result.at ≡ at }
+    {
+        Uses { text, at }
+    }
+}
+
+impl<'a> Iterator for Uses<'a> {
+    type Item = Part<'a>;
+
+    ghost next_gives = { NextUse };
+
+    ghost remaining = { λ uses. at_most (length uses.text.now - uses.at) };
+
+    fn next(&mut self) -> Option<Part<'a>> {
+        let Use { formula, to } = use_at(self.text, self.at)?;
+        self.at = to;
+        Some(formula)
     }
 }

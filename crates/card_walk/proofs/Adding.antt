@@ -1,6 +1,7 @@
 -- Sums made one by one. Assumes nothing.
-use Rattle.std.proofs.Common.{◌≡◌, ℕ, Bool, true, false, ◌||◌, ◌⊎◌, List, [], ◌∷◌, ◌++◌, Ok, Err, Result, sym, refl, ap, ◌∙◌, subst, inl, inr, ⊎_elim}
+use Rattle.std.proofs.Common.{◌≡◌, ℕ, ◌⊎◌, List, [], ◌∷◌, ◌++◌, Ok, Err, Result, sym, refl, ap, ◌∙◌, subst, inl, inr, ⊎_elim}
 use mathlib.Core.Path.{fun_ext}
+use Rattle.std.proofs.Math.Bool.{or_assoc, or-false}
 use Rattle.diagram.specs.declared.Node.{Node}
 use Rattle.diagram.specs.Functions.{Fun, Constant, Restriction}
 use Rattle.diagram.specs.Nodes.{Issued, meaning, WellFormed}
@@ -12,7 +13,8 @@ use Rattle.table.specs.declared.faults.TableFault.{TableFault}
 use Rattle.table.specs.declared.faults.Reason.TheVariants.{Full}
 use Rattle.table.specs.Faults.{fault}
 use Rattle.formula.specs.Grammar.{Tree}
-use Rattle.walk.specs.declared.ops.Op.TheVariants.{Or}
+use Rattle.formula.specs.declared.steps.Operator.TheVariants.{Or}
+use Rattle.walk.specs.declared.ops.Op.TheVariants.{Infix}
 use Rattle.walk.specs.Ops.{joined}
 use Rattle.walk.specs.Outcomes.{Walked}
 use Rattle.compile.specs.Trees.{of_tree}
@@ -21,24 +23,16 @@ use Rattle.compile.proofs.Parts.{part_node, node_part}
 use Rattle.card_walk.specs.Sums.{never, either, sum_onto, some_of, SumNode, SumRestriction}
 use Rattle.card_walk.specs.Outcomes.{SumMade, Summed}
 
-or_assoc : (a b c : Bool) → (a || b) || c ≡ a || (b || c)
-or_assoc true b c = refl
-or_assoc false b c = refl
-
-or_false : (a : Bool) → a || false ≡ a
-or_false true = refl
-or_false false = refl
-
 -- the sum is yes where f or some tree is
 sum_some : (f : Fun) (ts : List Tree) → sum_onto f ts ≡ either f (some_of ts)
-sum_some f [] = fun_ext (λ s. sym (or_false (f s)))
+sum_some f [] = fun_ext (λ s. sym (or-false (f s)))
 sum_some f (t ∷ ts) = sum_some (either f (of_tree t)) ts ∙ fun_ext (λ s. or_assoc (f s) (of_tree t s) (some_of ts s))
 
 pub sum_is : (ts : List Tree) → sum_onto never ts ≡ some_of ts
 sum_is ts = sum_some never ts
 
 -- sums go on
-pub sum_more : (f : Fun) (ts us : List Tree) → sum_onto f (ts ++ us) ≡ sum_onto (sum_onto f ts) us
+sum_more : (f : Fun) (ts us : List Tree) → sum_onto f (ts ++ us) ≡ sum_onto (sum_onto f ts) us
 sum_more f [] us = refl
 sum_more f (t ∷ ts) us = sum_more (either f (of_tree t)) ts us
 
@@ -90,12 +84,12 @@ module _ (N : ℕ) (old : List Node) (sum : ℕ) (held : Issued old sum) (t : Tr
   part_refused w = record { outcome = record { is = w.outcome.is; denies = denies_up (λ g p. inl (inl p)) w.outcome.denies } }
 
   module _ {h : ℕ} {mid : List Node} (built : Compiled N old t (Ok h) mid) where
-    either_is : joined Or (meaning mid sum) (meaning mid h) ≡ either f (of_tree t)
+    either_is : joined (Infix Or) (meaning mid sum) (meaning mid h) ≡ either f (of_tree t)
     either_is =
         let up = built.outcome.grants.grows.extends in
-        ap (λ (u : Fun). joined Or u (meaning mid h)) (meaning_kept up sum held) ∙ ap (λ (u : Fun). joined Or f u) built.outcome.means
+        ap (λ (u : Fun). joined (Infix Or) u (meaning mid h)) (meaning_kept up sum held) ∙ ap (λ (u : Fun). joined (Infix Or) f u) built.outcome.means
 
-    pub added : {M l : ℕ} (r : Result ℕ TableFault) {new : List Node} → M ≡ N → Walked M mid l (joined Or (meaning mid sum) (meaning mid h)) r new → Summed N (meaning old sum) old (t ∷ []) r new
+    pub added : {M l : ℕ} (r : Result ℕ TableFault) {new : List Node} → M ≡ N → Walked M mid l (joined (Infix Or) (meaning mid sum) (meaning mid h)) r new → Summed N (meaning old sum) old (t ∷ []) r new
     added {M} {l} (Ok k) {new} m w =
         let give = w.outcome in
         let both = grants_then built.outcome.grants (subst (λ (u : Fun). Grants (Restriction u) mid new) either_is (gives_grants give)) in

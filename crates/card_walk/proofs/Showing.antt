@@ -2,8 +2,11 @@
 use Rattle.std.proofs.Common.{◌≡◌, ℕ, ◌+◌, ◌-◌, ◌<◌, ◌≤◌, min, List, [], ◌∷◌, ◌++◌, length, take, drop, Ok, Err, count_by, Result, sym, refl, ap, ◌∙◌, subst, append_assoc, append-nil, arith, length-append, length-drop, drop_of_length-le, length-take}
 use Rattle.std.proofs.lemmas.List.{drop_at, drop-drop, take_all}
 use Rattle.diagram.specs.Functions.{Fun}
-use Rattle.product.specs.Put.{Put}
-use Rattle.product.proofs.Putting.{put_two, put_as, put_first}
+use Rattle.decimal.specs.Put.{Put}
+use Rattle.decimal.specs.declared.outputs.Output.{Output}
+use Rattle.decimal.specs.Outputs.{Puts}
+use Rattle.decimal.proofs.Putting.{put_first}
+use Rattle.decimal.proofs.Writing.{puts_two, puts_as}
 use Rattle.implicant.specs.Implicants.{Condition}
 use Rattle.implicant.specs.Variables.{ArePrimes}
 use Rattle.card_text.specs.Grammar.{card_row, spell}
@@ -13,11 +16,9 @@ use Rattle.listing.specs.Listing.{IsList, listing, last_row, rows}
 use Rattle.listing.specs.Outcome.{Listed}
 use Rattle.card_walk.specs.Shown.{heading, IsShown, CardWritten}
 
-pub heading_put : (title old a b new : List ℕ) (p q r : ℕ) → Put (spell (card_row [])) 0 old a p → Put title p a b q → Put (10 ∷ []) q b new r → Put (heading title) 0 old new r
+pub heading_put : (title : List ℕ) {a b c d : Output} → Puts (spell (card_row [])) a b → Puts title b c → Puts (10 ∷ []) c d → Puts (heading title) a d
 unfolding heading
-heading_put title old a b new p q r x y z =
-    put_as (spell (card_row []) ++ (title ++ 10 ∷ [])) (spell (card_row title) ++ 10 ∷ []) 0 r old new refl
-    (put_two (spell (card_row [])) (title ++ 10 ∷ []) 0 p r old a new x (put_two title (10 ∷ []) p q r a b new y z))
+heading_put title x y z = puts_as refl (puts_two x (puts_two y z))
 
 heading_length : (title : List ℕ) → length (heading title) ≡ length title + 8
 unfolding heading
@@ -63,24 +64,24 @@ module _ (title old : List ℕ) (g : Fun) (from : ℕ) (at : from ≡ min (lengt
     head_is : from ≡ length (heading title)
     head_is = omega (arith, head_fits, at, heading_length title)
 
-    pub card_written : (r : ℕ) (new : List ℕ) → Put (heading title) 0 (put_mid from (length old - from) old sub) new r → CardWritten title g (Ok (length title + 8 + n)) old new
-    card_written r new p =
+    pub card_written : {before after : Output} {new : List ℕ} → before.at ≡ 0 → before.run.now ≡ put_mid from (length old - from) old sub → Puts (heading title) before after → new ≡ after.run.now → CardWritten title g (Ok (length title + 8 + n)) old new
+    card_written {before} {after} {new} start lent p last =
         let o = l.outcome in
         let bytes = l.bytes in
+        let whole = put_mid from (length old - from) old sub in
         let end : drop (length old - from) (drop from old) ≡ [] = drop_of_length-le (drop from old) (omega (arith, length-drop from old)) in
-        let at_r : from ≡ r = head_is ∙ sym (p.value ∙ omega arith) in
-        let behind : drop r (put_mid from (length old - from) old sub) ≡ sub =
-        ap (λ (m : ℕ). drop m (put_mid from (length old - from) old sub)) (sym at_r)
-        ∙ drop_at (take from old) (sub ++ drop (length old - from) (drop from old)) from (omega (arith, length-take from old, at))
+        let at_r : after.at ≡ from = omega (arith, p.put.value, start, head_is) in
+        let behind : drop from whole ≡ sub =
+        drop_at (take from old) (sub ++ drop (length old - from) (drop from old)) from (omega (arith, length-take from old, at))
         ∙ ap (λ (z : List ℕ). sub ++ z) end ∙ append-nil sub in
         let rest : drop (length bytes) part ≡ drop (length (heading title ++ bytes)) old =
         ap (drop (length bytes)) whole_part ∙ drop-drop (length bytes) from old ∙ ap (λ (m : ℕ). drop m old) (omega (arith, long bytes, head_is, heading_length title)) in
-        let whole : new ≡ (heading title ++ bytes) ++ drop (length (heading title ++ bytes)) old =
-        put_first (heading title) (put_mid from (length old - from) old sub) new r p
-        ∙ ap (λ (z : List ℕ). heading title ++ z) (behind ∙ o.2 ∙ ap (λ (z : List ℕ). bytes ++ z) rest)
+        let written : new ≡ (heading title ++ bytes) ++ drop (length (heading title ++ bytes)) old =
+        last ∙ put_first (heading title) before.run.now after.run.now after.at (subst (λ (m : ℕ). Put (heading title) m before.run.now after.run.now after.at) start p.put)
+        ∙ ap (λ (z : List ℕ). heading title ++ z) ((λ i. drop (at_r i) (lent i)) ∙ behind ∙ o.2 ∙ ap (λ (z : List ℕ). bytes ++ z) rest)
         ∙ sym (append_assoc (heading title) bytes (drop (length (heading title ++ bytes)) old)) in
         record {
           bytes = heading title ++ bytes;
           shows = shows (Ok n) sub l;
-          outcome = (omega (arith, o.0, long bytes), omega (arith, o.1, long bytes, head_fits, head_is, heading_length title, ap length whole_part, length-drop from old), whole);
+          outcome = (omega (arith, o.0, long bytes), omega (arith, o.1, long bytes, head_fits, head_is, heading_length title, ap length whole_part, length-drop from old), written);
         }

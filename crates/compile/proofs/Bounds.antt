@@ -1,5 +1,10 @@
 -- The options of a formula are the twelve. Assumes nothing.
-use Rattle.std.proofs.Common.{◌≡◌, ℕ, zero, suc, ◌+◌, ◌-◌, ◌≤◌, Bool, true, false, cond, eqb, leb, List, [], ◌∷◌, ◌++◌, drop, sym, refl, subst, arith, leb-true}
+use Rattle.std.proofs.Common.{◌≡◌, ℕ, ◌+◌, ◌-◌, ◌<◌, ◌≤◌, Bool, true, false, cond, eqb, leb, List, [], ◌++◌, length, get_or, sym, refl, ◌∙◌, subst, arith, leb-true}
+use mathlib.Core.Logic.{∥∥₁_elim}
+use mathlib.Core.HLevel.{×_prop}
+use native.Mathlib.Bridge.{le_prop}
+use Rattle.std.specs.List.{All}
+use Rattle.std.proofs.lemmas.List.Elements.{All-nil, All-cons, All-push, All-append, All-get_or}
 use Rattle.formula.specs.declared.steps.Leaf.{Leaf}
 use Rattle.formula.specs.declared.steps.Leaf.TheVariants.{Constant, Option}
 use Rattle.formula.specs.declared.steps.Operator.{Operator}
@@ -8,6 +13,8 @@ use Rattle.formula.specs.declared.steps.Step.{Step}
 use Rattle.formula.specs.declared.steps.Step.TheVariants.{Load, Negate, Apply}
 use Rattle.formula.specs.declared.steps.Token.{Token}
 use Rattle.formula.specs.declared.steps.Token.TheVariants.{Operand, Negation, Infix, Opening, Closing, Foreign}
+use Rattle.formula.specs.declared.stored.Formula.{Formula}
+use Rattle.formula.specs.Answer.{steps_of}
 use Rattle.formula.specs.Notation.{notation}
 use Rattle.formula.specs.Grammar.{Tree, binary, postfix, Derives, single, negated, bracket, looser, chained, once}
 use Rattle.compile.specs.Steps.{Bounded}
@@ -60,32 +67,24 @@ leaf_bounded b (Constant v) e = tt
 leaf_bounded b (Option k) e = let n = subst Numbered e (all_numbered b) in (n.first, n.last)
 
 -- every step of a formula is bounded
-abbrev Each : List Step → Type 0
-Each [] = Unit {0}
-Each (s ∷ ss) = Bounded s × Each ss
-
-each_append : (xs ys : List Step) → Each xs → Each ys → Each (xs ++ ys)
-each_append [] ys p q = q
-each_append (x ∷ xs) ys p q = (p.0, each_append xs ys p.1 q)
-
-each_drop : (i : ℕ) (xs : List Step) → Each xs → Each (drop i xs)
-each_drop zero xs p = p
-each_drop (suc i) [] p = tt
-each_drop (suc i) (x ∷ xs) p = each_drop i xs p.1
-
-each_binary : (op : Operator) (l r : Tree) → Each (postfix l) → Each (postfix r) → Each (postfix (binary op l r))
+bounded_binary : (op : Operator) (l r : Tree) → All Bounded (postfix l) → All Bounded (postfix r) → All Bounded (postfix (binary op l r))
 unfolding postfix
-each_binary op l r p q = each_append (postfix l ++ postfix r) (Apply op ∷ []) (each_append (postfix l) (postfix r) p q) (tt, tt)
+bounded_binary op l r p q = All-push Bounded (postfix l ++ postfix r) (Apply op) (All-append Bounded (postfix l) (postfix r) p q) tt
 
-each_derived : {n k : ℕ} {text : List ℕ} {t : Tree} → Derives n k text t → Each (postfix t)
+all_bounded : {n k : ℕ} {text : List ℕ} {t : Tree} → Derives n k text t → All Bounded (postfix t)
 unfolding postfix
-each_derived (single {b = b} {a = a} e) = (leaf_bounded b a e, tt)
-each_derived (negated {t = t} e d) = each_append (postfix t) (Negate ∷ []) (each_derived d) (tt, tt)
-each_derived (bracket a b e f m d) = each_derived d
-each_derived (looser d) = each_derived d
-each_derived (chained b {op = op} {l = l} {r = r} e k d f) = each_binary op l r (each_derived d) (each_derived f)
-each_derived (once b {op = op} {l = l} {r = r} e k d f) = each_binary op l r (each_derived d) (each_derived f)
+all_bounded (single {b = b} {a = a} e) = All-cons Bounded (Load a) [] (leaf_bounded b a e) (All-nil Bounded)
+all_bounded (negated {t = t} e d) = All-push Bounded (postfix t) Negate (all_bounded d) tt
+all_bounded (bracket a b e f m d) = all_bounded d
+all_bounded (looser d) = all_bounded d
+all_bounded (chained b {op = op} {l = l} {r = r} e k d f) = bounded_binary op l r (all_bounded d) (all_bounded f)
+all_bounded (once b {op = op} {l = l} {r = r} e k d f) = bounded_binary op l r (all_bounded d) (all_bounded f)
 
--- the step after the first i
-pub derived_bounded : {n k : ℕ} {text : List ℕ} {t : Tree} (steps : List Step) (i : ℕ) (s : Step) {ss : List Step} → Derives n k text t → steps ≡ postfix t → drop i steps ≡ s ∷ ss → Bounded s
-derived_bounded steps i s d e f = (subst Each f (each_drop i steps (subst Each (sym e) (each_derived d)))).0
+bounded_prop : (s : Step) → IsProp (Bounded s)
+bounded_prop (Load (Constant b)) = λ x y. refl
+bounded_prop (Load (Option k)) = ×_prop le_prop le_prop
+bounded_prop Negate = λ x y. refl
+bounded_prop (Apply op) = λ x y. refl
+
+pub step_bounded : (f : Formula) {steps : List Step} (i : ℕ) (d : Step) → steps ≡ steps_of f → i < length steps → Bounded (get_or steps i d)
+step_bounded f {steps} i d is lt = ∥∥₁_elim f.spelled (bounded_prop (get_or steps i d)) (λ t. All-get_or Bounded steps i d lt (subst (All Bounded) (sym (is ∙ t.3)) (all_bounded t.2)))

@@ -21,7 +21,7 @@ tree_run ss us = run leaf neg binary ss us
 pub tree_run_all : (t : Tree) → tree_run (postfix t) [] ≡ t ∷ []
 tree_run_all t = run_all leaf neg binary t ∙ ap (λ u. u ∷ []) (eval_tree t)
 
-pub part_trans : {t u v : Tree} → Part t u → Part u v → Part t v
+part_trans : {t u v : Tree} → Part t u → Part u v → Part t v
 part_trans whole q = q
 part_trans (negated p) q = negated (part_trans p q)
 part_trans (left p) q = left (part_trans p q)
@@ -32,21 +32,17 @@ abbrev pub Parts : Tree → List Tree → Type 0
 Parts t [] = Unit {0}
 Parts t (u ∷ us) = Part t u × Parts t us
 
-Some : List Tree → Type 0
-Some [] = ⊥
-Some (x ∷ xs) = Unit {0}
-
 one_part : (t : Tree) (us : List Tree) → us ≡ t ∷ [] → Parts t us
 one_part t us e = subst (Parts t) (sym e) (whole, tt)
 
 pub run_parts : (t : Tree) (ss : List Step) (us : List Tree) → tree_run ss us ≡ t ∷ [] → Parts t us
-unfolding run Some
+unfolding run
 run_parts t [] us e = one_part t us e
 run_parts t (Load a ∷ ss) us e = (run_parts t ss (leaf a ∷ us) e).1
-run_parts t (Negate ∷ ss) [] e = absurd (subst Some (sym e) tt)
+run_parts t (Negate ∷ ss) [] e = cc
 run_parts t (Negate ∷ ss) (x ∷ us) e = let r = run_parts t ss (neg x ∷ us) e in (part_trans r.0 (negated whole), r.1)
-run_parts t (Apply op ∷ ss) [] e = absurd (subst Some (sym e) tt)
-run_parts t (Apply op ∷ ss) (y ∷ []) e = absurd (subst Some (sym e) tt)
+run_parts t (Apply op ∷ ss) [] e = cc
+run_parts t (Apply op ∷ ss) (y ∷ []) e = cc
 run_parts t (Apply op ∷ ss) (y ∷ (x ∷ us)) e =
     let r = run_parts t ss (binary op x y ∷ us) e in
     (part_trans r.0 (right whole), (part_trans r.0 (left whole), r.1))

@@ -1,27 +1,27 @@
 -- The loop over a formula's steps: what the stack holds between two of them. Assumes nothing.
-use Rattle.std.proofs.Common.{◌≡◌, ℕ, zero, suc, ◌+◌, ◌<◌, ◌≤◌, ◌⊎◌, List, [], ◌∷◌, length, get_or, drop, set, Ok, Err, sym, refl, ap, ◌∙◌, subst, inl, ⊎_elim, arith, length-set, drop_of_length-le, length-take}
-use Rattle.std.proofs.lemmas.List.{drop_more}
+use Rattle.std.proofs.Common.{◌≡◌, ℕ, suc, ◌+◌, ◌<◌, ◌≤◌, ◌⊎◌, List, [], ◌∷◌, ◌++◌, length, get_or, drop, Ok, Err, sym, refl, ap, ◌∙◌, subst, inl, ⊎_elim, arith, drop_of_length-le, reverse}
+use mathlib.Core.HLevel.{⊥_prop}
+use mathlib.Core.Logic.{∥∥₁_elim}
+use native.Mathlib.Bridge.{le_prop}
+use Rattle.std.proofs.lemmas.List.{drop_more, reverse-append, length-reverse}
 use Rattle.diagram.specs.declared.Node.{Node}
 use Rattle.diagram.specs.Functions.{Fun, Restriction}
-use Rattle.diagram.specs.Nodes.{Issued, meaning, WellFormed}
+use Rattle.diagram.specs.Nodes.{WellFormed}
 use Rattle.diagram.specs.Outcomes.{Grants}
 use Rattle.diagram.proofs.Outcome.{grows_none, grants_then, denies_then, grants_varying, denies_up}
 use Rattle.diagram.proofs.Account.{gives_grants}
 use Rattle.table.specs.declared.faults.TableFault.{TableFault}
-use Rattle.formula.specs.declared.steps.Operator.{Operator}
 use Rattle.formula.specs.declared.steps.Step.{Step}
 use Rattle.formula.specs.declared.steps.Step.TheVariants.{Load, Negate, Apply}
 use Rattle.formula.specs.declared.stored.Formula.{Formula}
 use Rattle.formula.specs.Answer.{steps_of}
-use Rattle.formula.specs.Grammar.{Tree, postfix, Derives}
+use Rattle.formula.specs.Grammar.{Tree, postfix}
 use Rattle.formula.specs.Running.{run, Enough}
 use Rattle.walk.specs.Outcomes.{Walked}
 use Rattle.compile.specs.Trees.{of_tree, StackRestriction, Mean}
-use Rattle.compile.specs.Steps.{top, under, base, Bounded, handles}
+use Rattle.compile.specs.Steps.{top, under}
 use Rattle.compile.specs.Outcomes.{Compiled}
-use Rattle.compile.proofs.Bounds.{derived_bounded}
 use Rattle.compile.proofs.Parts.{tree_run, tree_run_all, run_parts, stack_within, leaf_split, neg_split, binary_split, leaf_join, neg_join, binary_join, mean_kept}
-use Rattle.compile.proofs.Stacks.{handles_one, handles_two, handles_push}
 
 -- the operands of a step are there
 abbrev Has : Step → List Tree → Type 0
@@ -32,17 +32,21 @@ Has (Apply op) [] = ⊥
 Has (Apply op) (y ∷ []) = ⊥
 Has (Apply op) (y ∷ (x ∷ us)) = Unit {0}
 
-Some : List Tree → Type 0
-Some [] = ⊥
-Some (x ∷ xs) = Unit {0}
+has_prop : (s : Step) (us : List Tree) → IsProp (Has s us)
+has_prop (Load a) us = λ x y. refl
+has_prop Negate [] = ⊥_prop
+has_prop Negate (u ∷ us) = λ x y. refl
+has_prop (Apply op) [] = ⊥_prop
+has_prop (Apply op) (v ∷ []) = ⊥_prop
+has_prop (Apply op) (v ∷ (u ∷ us)) = λ x y. refl
 
 has : (s : Step) (ss : List Step) (us : List Tree) (t : Tree) → tree_run (s ∷ ss) us ≡ t ∷ [] → Has s us
-unfolding run Some
+unfolding run
 has (Load a) ss us t e = tt
-has Negate ss [] t e = absurd (subst Some (sym e) tt)
+has Negate ss [] t e = cc
 has Negate ss (x ∷ us) t e = tt
-has (Apply op) ss [] t e = absurd (subst Some (sym e) tt)
-has (Apply op) ss (y ∷ []) t e = absurd (subst Some (sym e) tt)
+has (Apply op) ss [] t e = cc
+has (Apply op) ss (y ∷ []) t e = cc
 has (Apply op) ss (y ∷ (x ∷ us)) t e = tt
 
 run_step : (s : Step) (ss : List Step) (us : List Tree) → Has s us → tree_run (s ∷ ss) us ≡ tree_run ss (top s us ∷ under s us)
@@ -71,70 +75,41 @@ step_join (Apply op) (y ∷ []) p g r = absurd p
 step_join (Apply op) (y ∷ (x ∷ us)) p g r = binary_join op x y us g r
 
 -- as many handles as trees
-enough : (ns : List Node) (hs : List ℕ) (s : Step) (h : ℕ) (us : List Tree) → Has s us → Mean ns (handles hs h) us → h < 4096 → Enough s h
-unfolding handles
-enough ns hs (Load a) h us p m w = w
-enough ns hs Negate h [] p m w = absurd p
-enough ns hs Negate zero (x ∷ us) p m w = absurd m
-enough ns hs Negate (suc h) (x ∷ us) p m w = (omega arith, omega arith)
-enough ns hs (Apply op) h [] p m w = absurd p
-enough ns hs (Apply op) h (y ∷ []) p m w = absurd p
-enough ns hs (Apply op) zero (y ∷ (x ∷ us)) p m w = absurd m
-enough ns hs (Apply op) (suc zero) (y ∷ (x ∷ us)) p m w = absurd m.2
-enough ns hs (Apply op) (suc (suc h)) (y ∷ (x ∷ us)) p m w = (omega arith, omega arith)
+mean_many : (ns : List Node) (hs : List ℕ) (us : List Tree) → Mean ns hs us → length hs ≡ length us
+mean_many ns [] [] m = refl
+mean_many ns [] (u ∷ us) m = absurd m
+mean_many ns (h ∷ hs) [] m = absurd m
+mean_many ns (h ∷ hs) (u ∷ us) m = ap suc (mean_many ns hs us m.2)
 
-base_below : (s : Step) (h : ℕ) → Enough s h → (base s h < 4096) × (base s h ≤ h)
-base_below (Load a) h p = (p, omega arith)
-base_below Negate h p = (omega (arith, p.0, p.1), omega arith)
-base_below (Apply op) h p = (omega (arith, p.0, p.1), omega arith)
-
--- what is left below the result means what it meant
-mean_one : (ns : List Node) (x : ℕ) (hs : List ℕ) (us : List Tree) → Mean ns (x ∷ hs) us → Mean ns hs (under Negate us)
-mean_one ns x hs [] m = absurd m
-mean_one ns x hs (u ∷ us) m = m.2
-
-mean_two : (op : Operator) (ns : List Node) (y x : ℕ) (hs : List ℕ) (us : List Tree) → Mean ns (y ∷ (x ∷ hs)) us → Mean ns hs (under (Apply op) us)
-mean_two op ns y x hs [] m = absurd m
-mean_two op ns y x hs (v ∷ []) m = absurd m.2
-mean_two op ns y x hs (v ∷ (u ∷ us)) m = m.2.2
-
-mean_under : (ns : List Node) (hs : List ℕ) (s : Step) (h : ℕ) (us : List Tree) → Enough s h → Mean ns (handles hs h) us → Mean ns (handles hs (base s h)) (under s us)
-mean_under ns hs (Load a) h us p m = m
-mean_under ns hs Negate h us p m = mean_one ns _ _ us (subst (λ x. Mean ns x us) (handles_one hs h p.0) m)
-mean_under ns hs (Apply op) h us p m = mean_two op ns _ _ _ us (subst (λ x. Mean ns x us) (handles_two hs h p.0) m)
-
-one_left : (ns : List Node) (hs : List ℕ) (h : ℕ) (t : Tree) → Mean ns (handles hs h) (t ∷ []) → Issued ns (get_or hs 0 0) × (meaning ns (get_or hs 0 0) ≡ of_tree t)
-unfolding handles
-one_left ns hs zero t m = absurd m
-one_left ns hs (suc zero) t m = (m.0, m.1)
-one_left ns hs (suc (suc h)) t m = absurd m.2
+enough : (s : Step) (h : ℕ) (us : List Tree) → Has s us → h ≡ length us → h < 4096 → Enough s h
+enough (Load a) h us p e w = w
+enough Negate h [] p e w = absurd p
+enough Negate h (x ∷ us) p e w = (omega arith, omega arith)
+enough (Apply op) h [] p e w = absurd p
+enough (Apply op) h (y ∷ []) p e w = absurd p
+enough (Apply op) h (y ∷ (x ∷ us)) p e w = (omega arith, omega arith)
 
 -- after i of the steps, with the nodes `old` before the first: the stack's trees, what the steps that are left make of them, and that they are made
-pub record Ran (steps : List Step) (i : ℕ) (old now : List Node) (hs : List ℕ) (height : ℕ) : Type 0 where
+pub record Ran (steps : List Step) (i : ℕ) (old now : List Node) (hs : List ℕ) : Type 0 where
   pub trees : List Tree
-  pub mean : Mean now (handles hs height) trees
+  pub mean : Mean now (reverse hs) trees
   pub left : tree_run (drop i steps) trees ≡ tree_run steps []
   pub grants : Grants (StackRestriction trees) old now
-  pub low : height ≤ i
-  pub few : length steps ≤ 4096
-  pub room : length hs ≡ 4096
+  pub low : length hs ≤ i
 
-pub steps_few : (f : Formula) (steps : List Step) → steps ≡ steps_of f → length steps ≤ 4096
-steps_few f steps e = omega (arith, ap length e, length-take f.len f.steps, f.few)
-
-pub ran_none : (steps : List Step) (ns : List Node) (hs : List ℕ) → WellFormed ns → length steps ≤ 4096 → length hs ≡ 4096 → Ran steps 0 ns ns hs 0
-unfolding handles
-ran_none steps ns hs w few l = record {
+pub ran_none : (steps : List Step) (ns : List Node) (hs : List ℕ) → WellFormed ns → hs ≡ [] → Ran steps 0 ns ns hs
+ran_none steps ns hs w e = record {
   trees = [];
-  mean = tt;
+  mean = subst (λ l. Mean ns (reverse l) []) (sym e) tt;
   left = refl;
   grants = record { grows = grows_none _ ns w; all = λ g p. absurd p };
-  low = omega arith;
-  few = few;
-  room = l;
+  low = omega (arith, ap length e);
 }
 
-module _ {steps : List Step} {i : ℕ} {old now : List Node} {hs : List ℕ} {height : ℕ} (r : Ran steps i old now hs height) (t : Tree) (e : steps ≡ postfix t) where
+module _ {steps : List Step} {i : ℕ} {old now : List Node} {hs : List ℕ} (r : Ran steps i old now hs) (f : Formula) (is : steps ≡ steps_of f) where
+  many : length hs ≡ length r.trees
+  many = sym (length-reverse hs) ∙ mean_many now (reverse hs) r.trees r.mean
+
   -- one more step, s
   module _ (d : Step) (lt : i < length steps) where
     abbrev s : Step
@@ -144,44 +119,52 @@ module _ {steps : List Step} {i : ℕ} {old now : List Node} {hs : List ℕ} {he
     next = drop_more steps i d lt
 
     ready : Has s r.trees
-    ready = has s (drop (i + 1) steps) r.trees t (ap (λ l. tree_run l r.trees) (sym next) ∙ r.left ∙ ap (λ l. tree_run l []) e ∙ tree_run_all t)
+    ready =
+        ∥∥₁_elim f.spelled (has_prop s r.trees)
+        (λ t. has s (drop (i + 1) steps) r.trees t.1 (ap (λ l. tree_run l r.trees) (sym next) ∙ r.left ∙ ap (λ l. tree_run l []) (is ∙ t.3) ∙ tree_run_all t.1))
 
     after : tree_run (drop (i + 1) steps) (top s r.trees ∷ under s r.trees) ≡ tree_run steps []
     after = sym (run_step s (drop (i + 1) steps) r.trees ready) ∙ ap (λ l. tree_run l r.trees) (sym next) ∙ r.left
 
-    pub step_enough : Enough (get_or steps i d) height
-    step_enough = enough now hs s height r.trees ready r.mean (omega (arith, r.low, r.few))
+    pub step_enough : Enough (get_or steps i d) (length hs)
+    step_enough = enough s (length hs) r.trees ready many (omega (arith, r.low, ap length is, f.few))
 
-    pub step_bounded : {n k : ℕ} {text : List ℕ} → Derives n k text t → Bounded (get_or steps i d)
-    step_bounded x = derived_bounded steps i s x e next
-
-    pub step_refused : {M N : ℕ} {new : List Node} {err : TableFault} → M ≡ N → Walked M now 0 (of_tree (top (get_or steps i d) r.trees)) (Err err) new → Compiled N old t (Err err) new
-    step_refused {M} {N} {new} {err} m w =
-        let parts = run_parts t (drop (i + 1) steps) (top s r.trees ∷ under s r.trees) (after ∙ ap (λ l. tree_run l []) e ∙ tree_run_all t) in
+    pub step_refused : {M N : ℕ} {new : List Node} {err : TableFault} (t : Tree) → steps_of f ≡ postfix t → M ≡ N → Walked M now 0 (of_tree (top (get_or steps i d) r.trees)) (Err err) new → Compiled N old t (Err err) new
+    step_refused {M} {N} {new} {err} t e m w =
+        let parts = run_parts t (drop (i + 1) steps) (top s r.trees ∷ under s r.trees) (after ∙ ap (λ l. tree_run l []) (is ∙ e) ∙ tree_run_all t) in
         let d = denies_up (λ g x. stack_within t (top s r.trees ∷ under s r.trees) parts g (step_join s r.trees ready g x)) (denies_then r.grants w.outcome.denies) in
         subst (λ n. Compiled n old t (Err err) new) m (record { outcome = record { is = w.outcome.is; denies = d } })
 
-    pub step_ran : {N h at : ℕ} {new : List Node} → at ≡ base (get_or steps i d) height → Walked N now 0 (of_tree (top (get_or steps i d) r.trees)) (Ok h) new → Ran steps (i + 1) old new (set hs at h) (at + 1)
-    step_ran {N} {h} {at} {new} is w =
+    pub step_ran : {N h : ℕ} {new : List Node} {ys : List ℕ} (xs : List ℕ) → Walked N now 0 (of_tree (top (get_or steps i d) r.trees)) (Ok h) new → Mean now (reverse xs) (under (get_or steps i d) r.trees) → length xs ≤ length hs → ys ≡ xs ++ h ∷ [] → Ran steps (i + 1) old new ys
+    step_ran {N} {h} {new} {ys} xs w below shrinks pushed =
         let g = w.outcome in
-        let b = base_below s height step_enough in
-        let below = mean_kept now new _ (under s r.trees) g.grows.extends (mean_under now hs s height r.trees step_enough r.mean) in
-        subst (λ k. Ran steps (i + 1) old new (set hs k h) (k + 1)) (sym is) (record {
+        let turned : reverse ys ≡ h ∷ reverse xs = ap reverse pushed ∙ reverse-append xs (h ∷ []) in
+        let longer : length ys ≡ suc (length xs) = sym (length-reverse ys) ∙ ap length turned ∙ ap suc (length-reverse xs) in
+        let kept = mean_kept now new (reverse xs) (under s r.trees) g.grows.extends below in
+        record {
           trees = top s r.trees ∷ under s r.trees;
-          mean = subst (λ l. Mean new l (top s r.trees ∷ under s r.trees)) (sym (handles_push hs (base s height) h (omega (arith, r.room, b.0)))) (g.stands.issued, g.stands.value, below);
+          mean = subst (λ l. Mean new l (top s r.trees ∷ under s r.trees)) (sym turned) (g.stands.issued, g.stands.value, kept);
           left = after;
           grants = grants_varying (λ f x _. step_join s r.trees ready f x) (λ f x. step_split s r.trees ready f x) (grants_then r.grants (gives_grants g));
-          low = omega (arith, b.1, r.low);
-          few = r.few;
-          room = length-set hs (base s height) h ∙ r.room;
-        })
+          low = omega (arith, r.low);
+        }
 
   -- no step is left
-  all_run : length steps ≤ i → r.trees ≡ t ∷ []
-  unfolding run
-  all_run le = sym (ap (λ l. tree_run l r.trees) (drop_of_length-le steps le)) ∙ r.left ∙ ap (λ l. tree_run l []) e ∙ tree_run_all t
+  module _ (le : length steps ≤ i) where
+    all_run : (t : Tree) → steps_of f ≡ postfix t → r.trees ≡ t ∷ []
+    unfolding run
+    all_run t e = sym (ap (λ l. tree_run l r.trees) (drop_of_length-le steps le)) ∙ r.left ∙ ap (λ l. tree_run l []) (is ∙ e) ∙ tree_run_all t
 
-  pub ran_done : {N : ℕ} → length steps ≤ i → Compiled N old t (Ok (get_or hs 0 0)) now
-  ran_done le =
-      let m = one_left now hs height t (subst (λ us. Mean now (handles hs height) us) (all_run le) r.mean) in
-      record { outcome = record { issued = m.0; means = m.1; grants = grants_varying (λ g p _. ⊎_elim (λ x. x) absurd p) (λ g p. inl p) (subst (λ us. Grants (StackRestriction us) old now) (all_run le) r.grants) } }
+    pub some_left : 0 < length hs
+    some_left = ∥∥₁_elim f.spelled le_prop (λ t. omega (arith, many, ap length (all_run t.1 t.3)))
+
+    pub ran_done : {N h : ℕ} (xs : List ℕ) → hs ≡ xs ++ h ∷ [] → (t : Tree) → steps_of f ≡ postfix t → Compiled N old t (Ok h) now
+    ran_done {N} {h} xs last t e =
+        let m = subst (λ us. Mean now (h ∷ reverse xs) us) (all_run t e) (subst (λ l. Mean now l r.trees) (ap reverse last ∙ reverse-append xs (h ∷ [])) r.mean) in
+        record {
+          outcome = record {
+            issued = m.0;
+            means = m.1;
+            grants = grants_varying (λ g p _. ⊎_elim (λ x. x) absurd p) (λ g p. inl p) (subst (λ us. Grants (StackRestriction us) old now) (all_run t e) r.grants);
+          };
+        }

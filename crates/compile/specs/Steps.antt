@@ -1,13 +1,9 @@
--- What one step does to a stack of trees, the newest first, and where its result goes.
-use Rattle.std.specs.Prelude.{ℕ, zero, suc, ◌-◌, ◌≤◌, Bool, false, cond, List, [], ◌∷◌, slice_index}
+-- What one step does to a stack of trees, the newest first.
+use Rattle.std.specs.Prelude.{◌≤◌, false, List, [], ◌∷◌}
 use Rattle.formula.specs.declared.steps.Leaf.TheVariants.{Constant, Option}
 use Rattle.formula.specs.declared.steps.Step.{Step}
 use Rattle.formula.specs.declared.steps.Step.TheVariants.{Load, Negate, Apply}
 use Rattle.formula.specs.Grammar.{Tree, leaf, neg, binary}
-
--- the handle of a constant
-abbrev pub constant_at : Bool → ℕ
-constant_at b = cond b 1 0
 
 -- the tree that a step puts on the stack (any tree where operands are missing)
 abbrev pub top : Step → List Tree → Tree
@@ -27,20 +23,9 @@ under (Apply op) [] = []
 under (Apply op) (y ∷ []) = []
 under (Apply op) (y ∷ (x ∷ us)) = us
 
--- how many of h values a step leaves below its result
-abbrev pub base : Step → ℕ → ℕ
-base (Load a) h = h
-base Negate h = h - 1
-base (Apply op) h = h - 2
-
 -- an option is one of the twelve
 abbrev pub Bounded : Step → Type 0
 Bounded (Load (Constant b)) = Unit {0}
 Bounded (Load (Option k)) = (1 ≤ k) × (k ≤ 12)
 Bounded Negate = Unit {0}
 Bounded (Apply op) = Unit {0}
-
--- the first h of the handles, the last first
-unfoldable pub handles : List ℕ → ℕ → List ℕ
-handles hs zero = []
-handles hs (suc h) = slice_index hs h ∷ handles hs h

@@ -1,78 +1,58 @@
-ghost use Rattle.std.specs.Prelude.{◌≡◌, ◌<◌, List};
-ghost use Rattle.table.specs.Model.{Sound};
+ghost use Rattle.std.specs.Prelude.{◌≡◌, ◌≤◌, List, reverse};
+ghost use Rattle.arrayvec.specs.ArrayVec.{array_vec_len};
+ghost use Rattle.table.specs.Room.{SameRoom};
 ghost use Rattle.formula.specs.declared.steps.Step.TheVariants.{Load};
 ghost use Rattle.formula.specs.Grammar.{Tree, leaf};
 ghost use Rattle.formula.specs.Running.{Enough};
-ghost use Rattle.walk.specs.Entries.{Right};
 ghost use Rattle.walk.specs.Outcomes.{Walked};
 ghost use Rattle.compile.specs.Trees.{of_tree, Mean};
-ghost use Rattle.compile.specs.Steps.{constant_at, top, base, Bounded, handles};
+ghost use Rattle.compile.specs.Steps.{top, under, Bounded};
 
-use crate::op_of;
-use formula::{Leaf, Step};
+use arrayvec::ArrayVec;
+use formula::{Leaf, Operator, Step};
 use table::{NodeTable, TableFault};
-use walk::{Cache, Op, apply, make};
+use walk::{Cache, Manager, Op};
 
-// The handle of a constant, which every table has.
-fn constant(b: bool) -> u16
-    ensures { result ≡ constant_at b }
-{
-    if b { 1 } else { 0 }
-}
+// The handles of the parts that are operands to come, the newest last: a formula has at most 4,096 steps, and each adds one at most.
+pub(crate) type Stack = ArrayVec<u16, 4096>;
 
-// The handle of a leaf: a constant's, or that of an option's sign variable.
-fn load<T: NodeTable>(table: &mut T, a: Leaf) -> Result<u16, TableFault>
-    requires sound { Sound (T.limit table.old) (T.nodes table.old) }
+// The handle of a leaf: a constant's, which every table has, or that of an option's sign variable.
+fn load<T: NodeTable, C: Cache>(manager: &mut Manager<T, C>, a: Leaf) -> Result<u16, TableFault>
     requires bounded { Bounded (Load a) }
-    ensures size { T.limit table.new ≡ T.limit table.old }
-    ensures rest { T.rest table.new ≡ T.rest table.old }
-    ensures sound { Sound (T.limit table.new) (T.nodes table.new) }
-    ensures value { Walked (T.limit table.old) (T.nodes table.old) 0 (of_tree (leaf a)) result (T.nodes table.new) }
+    ensures room { SameRoom T.limit T.rest manager.old.table manager.new.table }
+    ensures value { Walked (T.limit manager.old.table) (T.nodes manager.old.table) 0 (of_tree (leaf a)) result (T.nodes manager.new.table) }
 {
     match a {
-        Leaf::Constant(b) => Ok(constant(b)),
-        Leaf::Option(k) => make(table, 2 * k, 0, 1),
+        Leaf::Constant(b) => Ok(u16::from(b)),
+        Leaf::Option(k) => manager.make(2 * k, 0, 1),
     }
 }
 
-// The handle of what a step makes of the first `height` handles of the stack; an operator's right operand is the last of them.
+// Takes the operands of a step off the stack, and makes the handle of what the step puts in their place.
+#[tactic(auto, using(crate::proofs::Stacks::negated_walked, crate::proofs::Stacks::applied_walked))]
 pub(crate) fn make_step<T: NodeTable, C: Cache>(
-    table: &mut T,
-    cache: &mut C,
-    stack: &[u16; 4096],
-    height: usize,
+    manager: &mut Manager<T, C>,
+    stack: &mut Stack,
     step: Step,
 ) -> Result<u16, TableFault>
-    requires sound { Sound (T.limit table.old) (T.nodes table.old) }
-    requires right { Right (T.nodes table.old) (C.holds cache.old) }
-    requires enough { Enough step height }
+    requires enough { Enough step (array_vec_len stack.old) }
     requires bounded { Bounded step }
-    requires means { (us : List Tree) × Mean (T.nodes table.old) (handles stack.now height) us }
-    ensures size { T.limit table.new ≡ T.limit table.old }
-    ensures rest { T.rest table.new ≡ T.rest table.old }
-    ensures sound { Sound (T.limit table.new) (T.nodes table.new) }
-    ensures right { Right (T.nodes table.new) (C.holds cache.new) }
-    ensures value { (us : List Tree) → Mean (T.nodes table.old) (handles stack.now height) us → Walked (T.limit table.old) (T.nodes table.old) 0 (of_tree (top step us)) result (T.nodes table.new) }
+    requires means { (us : List Tree) × Mean (T.nodes manager.old.table) (reverse stack.old.items) us }
+    ensures room { SameRoom T.limit T.rest manager.old.table manager.new.table }
+    ensures value { (us : List Tree) → Mean (T.nodes manager.old.table) (reverse stack.old.items) us → Walked (T.limit manager.old.table) (T.nodes manager.old.table) 0 (of_tree (top step us)) result (T.nodes manager.new.table) }
+    ensures below { (us : List Tree) → Mean (T.nodes manager.old.table) (reverse stack.old.items) us → Mean (T.nodes manager.old.table) (reverse stack.new.items) (under step us) }
+    ensures shrinks { array_vec_len stack.new ≤ array_vec_len stack.old }
 {
     match step {
-        Step::Load(a) => load(table, a),
-        Step::Negate => apply(table, cache, Op::Xor, stack[height - 1], 1),
-        Step::Apply(op) => {
-            let (x, y) = (stack[height - 2], stack[height - 1]);
-            apply(table, cache, op_of(op), x, y)
+        Step::Load(a) => load(manager, a),
+        Step::Negate => {
+            let x = stack.pop().unwrap();
+            manager.apply(Op::Infix(Operator::Xor), x, 1)
         }
-    }
-}
-
-// Where the result of a step goes: its operands are no longer needed.
-pub(crate) fn place(step: Step, height: usize) -> usize
-    requires { Enough step height }
-    ensures is { result ≡ base step height }
-    ensures room { result < 4096 }
-{
-    match step {
-        Step::Load(_) => height,
-        Step::Negate => height - 1,
-        Step::Apply(_) => height - 2,
+        Step::Apply(operator) => {
+            let y = stack.pop().unwrap();
+            let x = stack.pop().unwrap();
+            manager.apply(Op::Infix(operator), x, y)
+        }
     }
 }

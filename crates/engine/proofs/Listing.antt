@@ -14,8 +14,13 @@ use Rattle.engine.specs.declared.card_faults.CardFault.TheVariants.{Graph, Short
 use Rattle.engine.specs.declared.faults.GraphFault.TheVariants.{NotCondition}
 use Rattle.engine.specs.Works.{primes_of}
 use Rattle.engine.specs.Calls.{Given, Rejected, Guarded, IsCondition, Primed, PrimesOut}
+use Rattle.engine.specs.Ends.{Ended}
 use Rattle.engine.specs.Lists.{Crowded, Unlisted, ListOut}
 use Rattle.engine.proofs.Again.{guarded_granted}
+
+-- a list's fault is that the output is too short
+abbrev pub Shortened : ListFault → CardFault → Type 0
+Shortened x y = y ≡ ShortOutput
 
 err_inside : (e d : GraphFault) → ◌≡◌ {A = Result ℕ GraphFault} (Err e) (Err d) → e ≡ d
 err_inside e d p = cc
@@ -52,13 +57,22 @@ module _ (N f : ℕ) (old : List Node) (before : List ℕ) where
     is_list : (r : Result ℕ ListFault) (after : List ℕ) → (l : Listed (meaning mid set) r before after) → IsList (condition_of (meaning old f)) l.bytes
     is_list r after l = l.are (condition_of (meaning old f)) (subst (ArePrimes 12 0 (condition_of (meaning old f))) (sym given.means) primed.1.are)
 
-    pub listed : (n : ℕ) (after : List ℕ) → Listed (meaning mid set) (Ok n) before after → ListOut N f old before (Ok n) mid after
+    listed : (n : ℕ) (after : List ℕ) → Listed (meaning mid set) (Ok n) before after → ListOut N f old before (Ok n) mid after
     listed n after l =
         let o = l.outcome in
         record { outcome = inl (issued.0, inl (primed.0, inr (l.bytes, is_list (Ok n) after l, inr (record { granted = given.granted; fits = o.1; is = ap Ok o.0; output = o.2 })))) }
 
-    pub too_short : (e : ListFault) (count : ℕ) (new : List Node) (after : List ℕ) → count ≡ length old → new ≡ oldest count mid → Listed (meaning mid set) (Err e) before after → ListOut N f old before (Err ShortOutput) new after
+    too_short : (e : ListFault) (count : ℕ) (new : List Node) (after : List ℕ) → count ≡ length old → new ≡ oldest count mid → Listed (meaning mid set) (Err e) before after → ListOut N f old before (Err ShortOutput) new after
     too_short e count new after c cut l =
         let o = l.outcome in
         let kept = cut ∙ cut_back old mid count given.granted.grows.extends c in
         record { outcome = inl (issued.0, inl (primed.0, inr (l.bytes, is_list (Err e) after l, inl (record { few = given.granted.few; short = o.0; is = refl; nodes = kept; output = o.2 })))) }
+
+    -- what is written, or that it does not fit, ends the call
+    pub list_ended : (done : Result ℕ ListFault) (r : Result ℕ CardFault) (count : ℕ) (new : List Node) (after : List ℕ) → count ≡ length old → Listed (meaning mid set) done before after → Ended Shortened count done mid r new → ListOut N f old before r new after
+    list_ended (Ok n) r count new after c l e =
+        let o = e.outcome in
+        subst (λ q. ListOut N f old before q new after) (sym o.0) (subst (λ ns. ListOut N f old before (Ok n) ns after) (sym o.1) (listed n after l))
+    list_ended (Err x) r count new after c l e =
+        let o = e.outcome in
+        subst (λ q. ListOut N f old before q new after) (sym (o.2 ∙ ap Err o.1)) (too_short x count new after c o.3 l)

@@ -1,15 +1,12 @@
--- How a call ends after its walk; for the contract of an inner function.
+-- How a call ends after what it has done; for the contract of an inner function.
 use Rattle.std.specs.Prelude.{◌≡◌, ℕ, List, Ok, Err, Result}
 use Rattle.diagram.specs.declared.Node.{Node}
-use Rattle.table.specs.declared.faults.TableFault.{TableFault}
 use Rattle.table.specs.Model.{oldest}
-use Rattle.engine.specs.declared.faults.GraphFault.{GraphFault}
-use Rattle.engine.specs.declared.faults.GraphFault.TheVariants.{Table}
 
--- the walk's answer stands; or its fault is carried on, and of its nodes the first `count` are kept
-abbrev pub Ending : ℕ → Result ℕ TableFault → List Node → Result ℕ GraphFault → List Node → Type 0
-Ending count (Ok h) mid r new = (r ≡ Ok h) × (new ≡ mid)
-Ending count (Err e) mid r new = (r ≡ Err (Table e)) × (new ≡ oldest count mid)
+-- the answer stands; or its fault is carried on, and of the nodes the first `count` are kept
+abbrev pub Ending : {A E F : Type 0} → (E → F → Type 0) → ℕ → Result A E → List Node → Result A F → List Node → Type 0
+Ending gives count (Ok a) mid r new = (r ≡ Ok a) × (new ≡ mid)
+Ending {F = F} gives count (Err e) mid r new = (f : F) × gives e f × (r ≡ Err f) × (new ≡ oldest count mid)
 
-pub record Ended (count : ℕ) (walked : Result ℕ TableFault) (mid : List Node) (r : Result ℕ GraphFault) (new : List Node) : Type 0 where
-  pub outcome : Ending count walked mid r new
+pub record Ended {A E F : Type 0} (gives : E → F → Type 0) (count : ℕ) (done : Result A E) (mid : List Node) (r : Result A F) (new : List Node) : Type 0 where
+  pub outcome : Ending gives count done mid r new

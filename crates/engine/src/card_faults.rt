@@ -1,12 +1,13 @@
 ghost use Rattle.std.specs.Prelude.{◌≡◌};
-ghost use Rattle.engine.specs.declared.card_faults.CardFault.TheVariants.{Text, Graph};
+ghost use Rattle.engine.specs.declared.card_faults.CardFault.TheVariants.{Text, Graph, ShortOutput};
 ghost use Rattle.engine.specs.CardFaults.{card_number, card_place};
 
 use crate::faults::GraphFault;
 use card_text::TextFault;
+use listing::ListFault;
 
 // Why a card call is refused; a text's fault and a graph's are carried whole.
-#[derive(Clone, Copy)]
+#[derive(Clone, Copy, PartialEq, Eq, Debug)]
 pub enum CardFault {
     Text(TextFault),
     Graph(GraphFault),
@@ -14,6 +15,7 @@ pub enum CardFault {
 }
 
 impl CardFault {
+    // The number by which callers in C and price lists know the fault.
     pub fn number(self) -> u8
         ensures { result ≡ card_number self }
     {
@@ -49,5 +51,14 @@ impl From<GraphFault> for CardFault {
 
     fn from(fault: GraphFault) -> CardFault {
         CardFault::Graph(fault)
+    }
+}
+
+// A list's one fault is that the output is too short.
+impl From<ListFault> for CardFault {
+    ghost from_gives = { λ _ y. y ≡ ShortOutput };
+
+    fn from(_fault: ListFault) -> CardFault {
+        CardFault::ShortOutput
     }
 }

@@ -6,7 +6,7 @@ use formula::FormulaFault;
 use table::TableFault;
 
 // Why a graph call is refused; a formula's fault and a table's are carried whole.
-#[derive(Clone, Copy)]
+#[derive(Clone, Copy, PartialEq, Eq, Debug)]
 pub enum GraphFault {
     NoOption,
     NoProduct,
@@ -18,6 +18,7 @@ pub enum GraphFault {
 }
 
 impl GraphFault {
+    // The number by which callers in C and price lists know the fault.
     pub fn number(self) -> u8
         ensures { result ≡ graph_number self }
     {

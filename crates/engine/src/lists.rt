@@ -1,5 +1,6 @@
 // The lists of closed cards.
 ghost use Rattle.std.specs.Prelude.{◌≡◌};
+ghost use Rattle.table.specs.Room.{SameRoom};
 ghost use Rattle.engine.specs.Lists.{ListOut};
 
 use crate::card_faults::CardFault;
@@ -14,19 +15,11 @@ pub fn list<T: NodeTable>(
     card: &Closed,
     out: &mut [u8],
 ) -> Result<usize, CardFault>
-    ensures out { ListOut (T.limit graph.old.table) card.now.condition (T.nodes graph.old.table) out.old result (T.nodes graph.new.table) out.new }
-    ensures size { T.limit graph.new.table ≡ T.limit graph.old.table }
-    ensures rest { T.rest graph.new.table ≡ T.rest graph.old.table }
-    ensures memory { T.memory graph.new.table ≡ T.content (T.limit graph.new.table) (T.nodes graph.new.table) (T.rest graph.new.table) }
+    ensures out { ListOut (T.limit graph.old) card.now.condition (T.nodes graph.old) out.old result (T.nodes graph.new) out.new }
+    ensures room { SameRoom T.limit T.rest graph.old graph.new }
 {
     let held = graph.len();
     let set = graph.primes(card.condition)?;
-    let _ = graph.len();
-    match write_list(&graph.table, set, out) {
-        Ok(written) => Ok(written),
-        Err(_) => {
-            graph.table.truncate(held);
-            Err(CardFault::ShortOutput)
-        }
-    }
+    let written = write_list(&graph.manager.table, set, out);
+    graph.end(held, written)
 }

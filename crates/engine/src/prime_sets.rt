@@ -1,25 +1,22 @@
 ghost use Rattle.std.specs.Prelude.{◌≡◌};
+ghost use Rattle.table.specs.Room.{SameRoom};
 ghost use Rattle.engine.specs.Calls.{PrimesOut};
 
 use crate::faults::GraphFault;
 use crate::graph::Graph;
 use prime_walk::primes;
 use table::NodeTable;
-use walk::Cache;
 
 impl<T: NodeTable> Graph<T> {
     // The set of the primes of a condition.
     pub fn primes(&mut self, f: u16) -> Result<u16, GraphFault>
-        ensures out { PrimesOut (T.limit self.old.table) f (T.nodes self.old.table) result (T.nodes self.new.table) }
-        ensures size { T.limit self.new.table ≡ T.limit self.old.table }
-        ensures rest { T.rest self.new.table ≡ T.rest self.old.table }
-        ensures memory { T.memory self.new.table ≡ T.content (T.limit self.new.table) (T.nodes self.new.table) (T.rest self.new.table) }
+        ensures out { PrimesOut (T.limit self.old) f (T.nodes self.old) result (T.nodes self.new) }
+        ensures room { SameRoom T.limit T.rest self.old self.new }
     {
         let held = self.len();
         self.issued(f)?;
         self.condition(f)?;
-        self.cache.clear();
-        let walked = primes(&mut self.table, &mut self.cache, f, 0);
+        let walked = primes(&mut self.manager, f, 0);
         self.end(held, walked)
     }
 }

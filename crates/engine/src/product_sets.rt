@@ -14,17 +14,16 @@ use tally_walk::tally_set;
 impl<T: NodeTable> Graph<T> {
     // Whether a set has the product of two masks.
     pub fn contains(&self, set: u16, named: u16, sign: u16) -> Result<bool, GraphFault>
-        ensures { ContainsOut (T.limit self.now.table) set named sign (T.nodes self.now.table) result }
+        ensures { ContainsOut (T.limit self.now) set named sign (T.nodes self.now) result }
     {
         let Ok(product) = Product::new(named, sign) else {
             return Err(GraphFault::NoProduct);
         };
-        let _ = self.len();
         self.issued(set)?;
-        if !is_product_set(&self.table, set) {
+        if !is_product_set(&self.manager.table, set) {
             return Err(GraphFault::NotProductSet);
         }
-        Ok(answer_at(&self.table, set, product))
+        Ok(answer_at(&self.manager.table, set, product))
     }
 
     // Leaves the tally of a set in `answer`.
@@ -34,17 +33,17 @@ impl<T: NodeTable> Graph<T> {
         places: &mut [W::Weight],
         answer: &mut W::Weight,
     ) -> Result<(), GraphFault>
-        ensures { TallyOut (model W.nothing W.single W.joins W.naming) (T.limit self.now.table) set (T.nodes self.now.table) result places.old answer.old places.new answer.new }
+        ensures { TallyOut (model W.nothing W.single W.joins W.naming) (T.limit self.now) set (T.nodes self.now) result places.old answer.old places.new answer.new }
     {
         let held = self.len();
         self.issued(set)?;
-        if !is_product_set(&self.table, set) {
+        if !is_product_set(&self.manager.table, set) {
             return Err(GraphFault::NotProductSet);
         }
         if places.len() < held as usize + 2 {
             return Err(GraphFault::FewPlaces);
         }
-        *answer = tally_set::<T, W>(&self.table, set, places);
+        *answer = tally_set::<T, W>(&self.manager.table, set, places);
         Ok(())
     }
 }

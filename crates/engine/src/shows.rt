@@ -1,5 +1,6 @@
 // A card's text shown: its CARD record and its list.
 ghost use Rattle.std.specs.Prelude.{◌≡◌};
+ghost use Rattle.table.specs.Room.{SameRoom};
 ghost use Rattle.engine.specs.Shows.{ShowOut};
 
 use crate::card_faults::CardFault;
@@ -14,28 +15,14 @@ pub fn show<T: NodeTable>(
     text: &[u8],
     out: &mut [u8],
 ) -> Result<usize, CardFault>
-    ensures out { ShowOut (T.limit graph.old.table) text.now (T.nodes graph.old.table) out.old result (T.nodes graph.new.table) out.new }
-    ensures size { T.limit graph.new.table ≡ T.limit graph.old.table }
-    ensures rest { T.rest graph.new.table ≡ T.rest graph.old.table }
-    ensures memory { T.memory graph.new.table ≡ T.content (T.limit graph.new.table) (T.nodes graph.new.table) (T.rest graph.new.table) }
+    ensures out { ShowOut (T.limit graph.old) text.now (T.nodes graph.old) out.old result (T.nodes graph.new) out.new }
+    ensures room { SameRoom T.limit T.rest graph.old graph.new }
 {
     let held = graph.len();
     let outline = read_card(text)?;
     let condition = graph.sum_uses(text, outline.uses)?;
-    match graph.primes(condition) {
-        Ok(set) => {
-            let _ = graph.len();
-            match write_card(&graph.table, set, outline.title.bytes, out) {
-                Ok(written) => Ok(written),
-                Err(_) => {
-                    graph.table.truncate(held);
-                    Err(CardFault::ShortOutput)
-                }
-            }
-        }
-        Err(e) => {
-            graph.table.truncate(held);
-            Err(CardFault::from(e))
-        }
-    }
+    let made = graph.primes(condition);
+    let set = graph.end::<_, _, CardFault>(held, made)?;
+    let written = write_card(&graph.manager.table, set, outline.title.bytes, out);
+    graph.end(held, written)
 }

@@ -1,5 +1,6 @@
 -- What each part of the reader adds to a derivation, and what each refusal shows. Assumes nothing.
-use Rattle.std.proofs.Common.{◌≡◌, ℕ, zero, suc, ◌+◌, ◌-◌, ◌<◌, ◌≤◌, true, ◌⊎◌, List, [], ◌∷◌, ◌++◌, length, get_or, take, drop, replicate, sym, ap, ◌∙◌, subst, inl, inr, ⊎_elim, append_assoc, append-nil, arith, drop-drop, take-add}
+use Rattle.std.proofs.Common.{◌≡◌, ℕ, zero, suc, ◌+◌, ◌-◌, ◌<◌, ◌≤◌, true, ◌⊎◌, List, [], ◌∷◌, ◌++◌, length, get_or, take, drop, replicate, sym, ap, ◌∙◌, subst, inl, inr, ⊎_elim, append_assoc, append-nil, arith, drop-drop, take-add, length-append}
+use lib.ListN.{length-replicate}
 use Rattle.std.specs.List.{between}
 use Rattle.std.proofs.str.Laws.{order}
 use Rattle.std.proofs.lemmas.List.Edits.{between_none, between_more}
@@ -8,11 +9,10 @@ use Rattle.formula.specs.declared.steps.Operator.{Operator}
 use Rattle.formula.specs.declared.steps.Step.TheVariants.{Load, Negate, Apply}
 use Rattle.formula.specs.declared.steps.Token.{Token}
 use Rattle.formula.specs.declared.steps.Token.TheVariants.{Operand, Negation, Infix, Opening, Closing, Foreign}
-use Rattle.formula.specs.declared.steps.StepBuffer.{StepBuffer}
+use Rattle.formula.specs.declared.steps.Step.{Step}
 use Rattle.formula.specs.Notation.{notation}
 use Rattle.formula.specs.Grammar.{Tree, leaf, neg, binary, postfix, Derives, single, negated, bracket, looser, chained, once}
 use Rattle.formula.specs.Automaton.{Chain, nots, fold, blocked, Drives}
-use Rattle.formula.specs.Reads.{written}
 use Rattle.formula.specs.Reads.{Reads, Stops, After}
 use Rattle.formula.proofs.Notes.{strength_bounds}
 use Rattle.formula.proofs.Drive.{Any, Last, d_map, d_single, d_negated, d_bracket, d_weaker, d_join}
@@ -66,19 +66,19 @@ same_strength κ k j s u e f = ap strength (sym e ∙ f)
 none_six : (text : List ℕ) (n : ℕ) (c : Chain) (x : Tree) → Any c x → Stops text n 6 c x
 none_six text n c x q lt k s e h = let w : ⊥ = omega (arith, (strength_bounds (get_or text n 0) k s e).1) in absurd w
 
-pub leaf_read : (text : List ℕ) (at depth : ℕ) (before since : StepBuffer) (a : Leaf) → at < length text → notation (get_or text at 0) ≡ Operand a → since.len ≡ before.len + 1 → written since ≡ written before ++ Load a ∷ [] → Reads text at depth 6 6 before since (at + 1)
+pub leaf_read : (text : List ℕ) (at depth : ℕ) (before since : List Step) (a : Leaf) → at < length text → notation (get_or text at 0) ≡ Operand a → since ≡ before ++ Load a ∷ [] → Reads text at depth 6 6 before since (at + 1)
 unfolding postfix
-leaf_read text at depth before since a h e l w = record {
+leaf_read text at depth before since a h e w = record {
   moved = omega arith;
   inside = omega arith;
-  few = omega arith;
+  few = omega (arith, ap length w, length-append before (Load a ∷ []));
   tree = leaf a;
   derived = subst (λ bs. Derives (32 - depth) 6 bs (leaf a)) (sym (between_one text at h)) (single e);
   added = w;
   drives = λ L. subst (λ bs. Drives L (32 - depth) 6 (Stops text (at + 1) 6) bs (leaf a)) (sym (between_one text at h)) (d_map L (32 - depth) 6 Any (Stops text (at + 1) 6) (get_or text at 0 ∷ []) (leaf a) (none_six text (at + 1)) (d_single L (32 - depth) (get_or text at 0) a e));
 }
 
-pub bracket_read : (text : List ℕ) (at depth q : ℕ) (before since : StepBuffer) → notation (get_or text at 0) ≡ Opening → depth < 32 → q < length text → notation (get_or text q 0) ≡ Closing → Reads text (at + 1) (depth + 1) 1 1 before since q → Reads text at depth 6 6 before since (q + 1)
+pub bracket_read : (text : List ℕ) (at depth q : ℕ) (before since : List Step) → notation (get_or text at 0) ≡ Opening → depth < 32 → q < length text → notation (get_or text q 0) ≡ Closing → Reads text (at + 1) (depth + 1) 1 1 before since q → Reads text at depth 6 6 before since (q + 1)
 bracket_read text at depth q before since o d h c r =
     let a = get_or text at 0 in
     let b = get_or text q 0 in
@@ -121,29 +121,29 @@ unfolding postfix nots
 postfix_nots zero t = sym (append-nil (postfix t))
 postfix_nots (suc n) t = postfix_nots n (neg t) ∙ append_assoc (postfix t) (Negate ∷ []) (replicate n Negate)
 
-pub operand_read : (text : List ℕ) (at n depth q : ℕ) (before mid since : StepBuffer) → AllNegations text at n → Reads text (at + n) depth 6 6 before mid q → since.len ≡ mid.len + n → written since ≡ written mid ++ replicate n Negate → Reads text at depth 6 6 before since q
-operand_read text at n depth q before mid since all r e w = record {
+pub operand_read : (text : List ℕ) (at n depth q : ℕ) (before mid since : List Step) → AllNegations text at n → Reads text (at + n) depth 6 6 before mid q → since ≡ mid ++ replicate n Negate → Reads text at depth 6 6 before since q
+operand_read text at n depth q before mid since all r w = record {
   moved = omega (arith, r.moved);
   inside = r.inside;
-  few = omega (arith, r.few);
+  few = omega (arith, r.few, ap length w, length-append mid (replicate n Negate), length-replicate n Negate);
   tree = nots n r.tree;
   derived = negate_all text at n (32 - depth) q r.tree r.moved r.inside all r.derived;
-  added = w ∙ ap (λ l. l ++ replicate n Negate) r.added ∙ append_assoc (written before) (postfix r.tree) (replicate n Negate) ∙ ap (λ l. written before ++ l) (sym (postfix_nots n r.tree));
+  added = w ∙ ap (λ l. l ++ replicate n Negate) r.added ∙ append_assoc before (postfix r.tree) (replicate n Negate) ∙ ap (λ l. before ++ l) (sym (postfix_nots n r.tree));
   drives = λ L. drive_all text at n L (32 - depth) q (Stops text q 6) r.tree r.moved r.inside all (r.drives L);
 }
 
 -- the formula read so far, of strength cur, and the strongest operator that may follow
-pub record Sofar (text : List ℕ) (at depth floor : ℕ) (before since : StepBuffer) (p top : ℕ) : Type 0 where
+pub record Sofar (text : List ℕ) (at depth floor : ℕ) (before since : List Step) (p top : ℕ) : Type 0 where
   pub cur : ℕ
   pub reads : Reads text at depth cur (top + 1) before since p
   pub high : floor ≤ cur
   pub low : top ≤ cur
   pub alone : top < 3 → top < cur
 
-pub begun : (text : List ℕ) (at depth floor : ℕ) (before since : StepBuffer) (p : ℕ) → floor ≤ 6 → Reads text at depth 6 6 before since p → Sofar text at depth floor before since p 5
+pub begun : (text : List ℕ) (at depth floor : ℕ) (before since : List Step) (p : ℕ) → floor ≤ 6 → Reads text at depth 6 6 before since p → Sofar text at depth floor before since p 5
 begun text at depth floor before since p h r = record { cur = 6; reads = r; high = h; low = omega arith; alone = omega arith }
 
-pub ended : (text : List ℕ) (at depth floor : ℕ) (before since : StepBuffer) (p top : ℕ) → (p < length text → (k : ℕ) (s : Operator) → notation (get_or text p 0) ≡ Infix k s → floor ≤ k → top < k) → Sofar text at depth floor before since p top → Reads text at depth floor floor before since p
+pub ended : (text : List ℕ) (at depth floor : ℕ) (before since : List Step) (p top : ℕ) → (p < length text → (k : ℕ) (s : Operator) → notation (get_or text p 0) ≡ Infix k s → floor ≤ k → top < k) → Sofar text at depth floor before since p top → Reads text at depth floor floor before since p
 ended text at depth floor before since p top g f =
     let r = f.reads in
     record {
@@ -164,9 +164,9 @@ stop_more text q k top a c x w lt i s e h =
     ⊎_elim (λ lo. let eq : i ≡ k = omega (arith, after_cases k top a) in let j : k < 3 = omega (arith, after_cases k top a) in subst (λ n. (n < 3) × (blocked n (fold (suc n) c x).0 ≡ true)) (sym eq) (j, w.1 j)) (λ hi. w.0 lt i s e hi) (order i (k + 1))
 
 -- one operator and its right side more
-pub one_more : (text : List ℕ) (at depth floor : ℕ) (before since mid last : StepBuffer) (p top k q top' : ℕ) (s : Operator) → Sofar text at depth floor before since p top → p < length text → notation (get_or text p 0) ≡ Infix k s → floor ≤ k → k ≤ top → Reads text (p + 1) depth (k + 1) (k + 1) since mid q → last.len ≡ mid.len + 1 → written last ≡ written mid ++ Apply s ∷ [] → After k top' → Sofar text at depth floor before last q top'
+pub one_more : (text : List ℕ) (at depth floor : ℕ) (before since mid last : List Step) (p top k q top' : ℕ) (s : Operator) → Sofar text at depth floor before since p top → p < length text → notation (get_or text p 0) ≡ Infix k s → floor ≤ k → k ≤ top → Reads text (p + 1) depth (k + 1) (k + 1) since mid q → last ≡ mid ++ Apply s ∷ [] → After k top' → Sofar text at depth floor before last q top'
 unfolding postfix
-one_more text at depth floor before since mid last p top k q top' s sf h sg lo hi r e w af =
+one_more text at depth floor before since mid last p top k q top' s sf h sg lo hi r w af =
     let l = sf.reads in
     let b = get_or text p 0 in
     let n = 32 - depth in
@@ -177,13 +177,13 @@ one_more text at depth floor before since mid last p top k q top' s sf h sg lo h
     let f1 : k + 1 ≡ suc k = omega arith in
     let all : between at q text ≡ bs ++ b ∷ cs =
     between_join text at p q (omega (arith, l.moved)) (omega (arith, r.moved)) ∙ ap (λ x. between at p text ++ x) (between_cons text p q (omega (arith, r.moved)) r.inside) in
-    let regrouped : ((written before ++ postfix l.tree) ++ postfix r.tree) ++ Apply s ∷ [] ≡ written before ++ (postfix l.tree ++ postfix r.tree ++ Apply s ∷ []) = simp append_assoc in
+    let regrouped : ((before ++ postfix l.tree) ++ postfix r.tree) ++ Apply s ∷ [] ≡ before ++ (postfix l.tree ++ postfix r.tree ++ Apply s ∷ []) = simp append_assoc in
     record {
       cur = k;
       reads = record {
         moved = omega (arith, l.moved, r.moved);
         inside = r.inside;
-        few = omega (arith, l.few, r.few);
+        few = omega (arith, l.few, r.few, ap length w, length-append mid (Apply s ∷ []));
         tree = binary s l.tree r.tree;
         derived = subst (λ x. Derives n k x (binary s l.tree r.tree)) (sym all) (join n k sf.cur b s bs cs l.tree r.tree up solo sg l.derived (subst (λ j. Derives n j cs r.tree) f1 r.derived));
         added = w ∙ ap (λ x. x ++ Apply s ∷ []) (r.added ∙ ap (λ x. x ++ postfix r.tree) l.added) ∙ regrouped;

@@ -10,7 +10,7 @@ use Rattle.formula.specs.declared.steps.Leaf.TheVariants.{Option}
 use Rattle.formula.specs.declared.steps.Operator.{Operator}
 use Rattle.formula.specs.declared.steps.Token.{Token}
 use Rattle.formula.specs.declared.steps.Token.TheVariants.{Operand, Negation, Infix, Opening, Closing, Foreign}
-use Rattle.formula.specs.declared.steps.StepBuffer.{StepBuffer}
+use Rattle.formula.specs.declared.steps.Step.{Step}
 use Rattle.formula.specs.declared.faults.FormulaFault.{FormulaFault}
 use Rattle.formula.specs.declared.faults.FormulaFault.TheVariants.{TooLong, ForeignByte, Unexpected, TooDeep}
 use Rattle.formula.specs.Notation.{notation}
@@ -117,7 +117,7 @@ frame_bracket text at depth h d e = record {
   drives = λ L l m c o z w k. (0, start, inside m c o, (λ lt. refl), tt, omega arith, λ rest. ap (λ y. run L (operand m c o) (y ++ rest)) (between_one text at h) ∙ ap (λ κ. run L (step L (operand m c o) κ) rest) e ∙ ap (λ σ. run L σ rest) (step_open L m c o (omega arith)));
 }
 
-pub frame_infix : (text : List ℕ) (at depth floor p top k : ℕ) (s : Operator) (before since : StepBuffer) → Sofar text at depth floor before since p top → depth ≤ 32 → p < length text → notation (get_or text p 0) ≡ Infix k s → floor ≤ k → k ≤ top → Frame text at depth floor (p + 1) depth (k + 1)
+pub frame_infix : (text : List ℕ) (at depth floor p top k : ℕ) (s : Operator) (before since : List Step) → Sofar text at depth floor before since p top → depth ≤ 32 → p < length text → notation (get_or text p 0) ≡ Infix k s → floor ≤ k → k ≤ top → Frame text at depth floor (p + 1) depth (k + 1)
 unfolding run
 frame_infix text at depth floor p top k s before since sf dp h sg lo hi =
     let l = sf.reads in
@@ -206,7 +206,7 @@ unfolding height
 inner_open c x outside h = let w : ⊥ = omega arith in w
 inner_open c x (inside m d o) h = tt
 
-pub fail_after : (text : List ℕ) (at depth q : ℕ) (before since : StepBuffer) (e : FormulaFault) → depth ≤ 32 → Reads text at depth 1 1 before since q → (q < length text → notation (get_or text q 0) ≡ Closing → depth ≡ 0) → (q ≡ length text → 1 ≤ depth) → fault_place e ≡ q → Plain text e → Fails text at depth 1 e
+pub fail_after : (text : List ℕ) (at depth q : ℕ) (before since : List Step) (e : FormulaFault) → depth ≤ 32 → Reads text at depth 1 1 before since q → (q < length text → notation (get_or text q 0) ≡ Closing → depth ≡ 0) → (q ≡ length text → 1 ≤ depth) → fault_place e ≡ q → Plain text e → Fails text at depth 1 e
 unfolding run
 fail_after text at depth q before since e dp r cl en is pl = record {
   p = q;

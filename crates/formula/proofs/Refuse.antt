@@ -1,5 +1,5 @@
 -- From the automaton to the grammar. Assumes nothing.
-use Rattle.std.proofs.Common.{◌≡◌, ℕ, ◌+◌, ◌-◌, ◌<◌, ◌≤◌, List, ◌++◌, length, take, drop, sym, refl, ap, ◌∙◌, subst, ⊎_elim, append_assoc, arith, take-append-drop, take-take}
+use Rattle.std.proofs.Common.{◌≡◌, ℕ, ◌+◌, ◌-◌, ◌<◌, ◌≤◌, List, [], ◌++◌, length, take, drop, sym, refl, ap, ◌∙◌, subst, ⊎_elim, append_assoc, arith, take-append-drop, take-take}
 use lib.Seq.{take-length}
 use Rattle.std.specs.List.{between}
 use Rattle.std.proofs.str.Laws.{order}
@@ -7,11 +7,11 @@ use Rattle.formula.specs.declared.faults.FormulaFault.{FormulaFault}
 use Rattle.formula.specs.declared.faults.FormulaFault.TheVariants.{TooLong, ForeignByte, Unexpected, TooDeep}
 use Rattle.formula.specs.Grammar.{postfix, Derives, Viable, IsPostfix}
 use Rattle.formula.specs.Automaton.{start, outside, dead, operand, run, height}
-use Rattle.formula.specs.declared.steps.StepBuffer.{StepBuffer}
+use Rattle.formula.specs.declared.steps.Step.{Step}
 use Rattle.formula.specs.declared.stored.Formula.{Formula}
 use Rattle.formula.specs.Faults.{fault_place}
 use Rattle.formula.specs.Answer.{steps_of, Read, Broken, Refused}
-use Rattle.formula.specs.Reads.{written, Reads, Fails, Unfinished, Limit, Named}
+use Rattle.formula.specs.Reads.{Reads, Fails, Unfinished, Limit, Named}
 use Rattle.formula.proofs.Drive.{not_viable, unfinished}
 
 front : (text : List ℕ) (p : ℕ) → between 0 p text ≡ take p text
@@ -66,21 +66,21 @@ refused text (Unexpected p) h f = (
   λ d. let n = d.2.0 in not_viable (32 + n) n (take (p + 1) text) (omega arith) (dead_at text (Unexpected p) (32 + n) f (omega arith) d.0) d.2.1,
 )
 
-whole_text : (text : List ℕ) (before since : StepBuffer) (q : ℕ) → length text ≤ q → (r : Reads text 0 0 1 1 before since q) → Derives 32 1 text r.tree
+whole_text : (text : List ℕ) (before since : List Step) (q : ℕ) → length text ≤ q → (r : Reads text 0 0 1 1 before since q) → Derives 32 1 text r.tree
 whole_text text before since q g r =
     let e : q ≡ length text = omega (arith, r.inside) in
     subst (λ bs. Derives 32 1 bs r.tree) (front text q ∙ ap (λ n. take n text) e ∙ take-length text) r.derived
 
-steps_added : (text : List ℕ) (before since : StepBuffer) (q : ℕ) → before.len ≡ 0 → (r : Reads text 0 0 1 1 before since q) → take since.len since.steps ≡ postfix r.tree
-steps_added text before since q z r = r.added ∙ ap (λ n. take n before.steps ++ postfix r.tree) z
+steps_added : (text : List ℕ) (before since : List Step) (q : ℕ) → before ≡ [] → (r : Reads text 0 0 1 1 before since q) → since ≡ postfix r.tree
+steps_added text before since q z r = r.added ∙ ap (λ l. l ++ postfix r.tree) z
 
-pub spelled : (text : List ℕ) (before since : StepBuffer) (q : ℕ) → length text ≤ q → before.len ≡ 0 → Reads text 0 0 1 1 before since q → IsPostfix since.steps since.len
+pub spelled : (text : List ℕ) (before since : List Step) (q : ℕ) → length text ≤ q → before ≡ [] → Reads text 0 0 1 1 before since q → IsPostfix since
 spelled text before since q g z r = (text, r.tree, whole_text text before since q g r, steps_added text before since q z r)
 
-pub read_all : (text : List ℕ) (before since : StepBuffer) (out : Formula) (q : ℕ) → length text ≤ 4096 → length text ≤ q → before.len ≡ 0 → Reads text 0 0 1 1 before since q → steps_of out ≡ written since → Read text out
-read_all text before since out q h g z r w = record {
+pub read_all : (text : List ℕ) (before : List Step) (out : Formula) (q : ℕ) → length text ≤ 4096 → length text ≤ q → before ≡ [] → Reads text 0 0 1 1 before (steps_of out) q → Read text out
+read_all text before out q h g z r = record {
   short = h;
   tree = r.tree;
-  derived = whole_text text before since q g r;
-  steps = w ∙ steps_added text before since q z r;
+  derived = whole_text text before (steps_of out) q g r;
+  steps = steps_added text before (steps_of out) q z r;
 }

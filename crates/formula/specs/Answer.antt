@@ -10,7 +10,7 @@ use Rattle.formula.specs.Grammar.{Tree, postfix, Derives, Viable, Longest}
 
 -- the steps of a formula that was read
 abbrev pub steps_of : Formula → List Step
-steps_of f = take f.len f.steps
+steps_of f = f.steps.items
 
 -- the text is a formula, and the steps are those of its tree and nothing else
 pub record Read (text : List ℕ) (f : Formula) : Type 0 where

@@ -35,9 +35,9 @@ pub data Derives : ℕ → ℕ → List ℕ → Tree → Type 0 where
   -- an operator of strength 1 or 2, which does not chain
   once : {n k : ℕ} (b : ℕ) {op : Operator} {bs cs : List ℕ} {l r : Tree} → notation b ≡ Infix k op → k < 3 → Derives n (suc k) bs l → Derives n (suc k) cs r → Derives n k (bs ++ b ∷ cs) (binary op l r)
 
--- the first n of the steps are the postfix form of some formula
-abbrev pub IsPostfix : List Step → ℕ → Type 0
-IsPostfix steps n = (text : List ℕ) × (t : Tree) × Derives 32 1 text t × (take n steps ≡ postfix t)
+-- the steps are the postfix form of some formula
+abbrev pub IsPostfix : List Step → Type 0
+IsPostfix steps = (text : List ℕ) × (t : Tree) × Derives 32 1 text t × (steps ≡ postfix t)
 
 -- some formula of any length, nested at most n deep, continues the text
 abbrev pub Viable : ℕ → List ℕ → Type 0

@@ -1,8 +1,7 @@
 -- What the inner functions of the reader ensure.
-use Rattle.std.specs.Prelude.{◌≡◌, ℕ, suc, ◌+◌, ◌-◌, ◌<◌, ◌≤◌, true, List, ◌++◌, length, take, ◌≢◌, slice_index}
+use Rattle.std.specs.Prelude.{◌≡◌, ℕ, suc, ◌+◌, ◌-◌, ◌<◌, ◌≤◌, true, List, ◌++◌, length, ◌≢◌, slice_index}
 use Rattle.std.specs.List.{between}
 use Rattle.formula.specs.declared.steps.Operator.{Operator}
-use Rattle.formula.specs.declared.steps.StepBuffer.{StepBuffer}
 use Rattle.formula.specs.declared.faults.FormulaFault.{FormulaFault}
 use Rattle.formula.specs.declared.faults.FormulaFault.TheVariants.{TooLong, ForeignByte, Unexpected, TooDeep}
 use Rattle.formula.specs.declared.steps.Token.TheVariants.{Opening, Foreign, Infix}
@@ -12,22 +11,18 @@ use Rattle.formula.specs.Automaton.{Chain, Outer, State, height, dead, operand, 
 use Rattle.formula.specs.declared.steps.Step.{Step}
 use Rattle.formula.specs.Faults.{fault_place}
 
--- the steps written so far
-abbrev pub written : StepBuffer → List Step
-written p = take p.len p.steps
-
 -- an operator at n of strength j or more cannot follow
 abbrev pub Stops : List ℕ → ℕ → ℕ → Chain → Tree → Type 0
 Stops text n j c x = n < length text → (k : ℕ) (s : Operator) → notation (slice_index text n) ≡ Infix k s → j ≤ k → (k < 3) × (blocked k (fold (suc k) c x).0 ≡ true)
 
 -- the text from `at` to `n` is a formula of strength k, its steps were added, and no operator of strength j or more follows
-pub record Reads (text : List ℕ) (at depth k j : ℕ) (before since : StepBuffer) (n : ℕ) : Type 0 where
+pub record Reads (text : List ℕ) (at depth k j : ℕ) (before since : List Step) (n : ℕ) : Type 0 where
   pub moved : at < n
   pub inside : n ≤ length text
-  pub few : since.len + at ≤ before.len + n
+  pub few : length since + at ≤ length before + n
   pub tree : Tree
   pub derived : Derives (32 - depth) k (between at n text) tree
-  pub added : written since ≡ written before ++ postfix tree
+  pub added : since ≡ before ++ postfix tree
   pub drives : (limit : ℕ) → Drives limit (32 - depth) k (Stops text n j) (between at n text) tree
 
 -- a state in which a formula cannot end

@@ -1,10 +1,10 @@
 ghost use Rattle.std.specs.Prelude.{◌≡◌};
 ghost use Rattle.formula.specs.Faults.{fault_number, fault_place};
 
-use crate::reader::MAX_LENGTH;
+use crate::steps::MAX_LENGTH;
 
 // Why a text is no formula; but for the first, each holds the place of the fault.
-#[derive(Clone, Copy)]
+#[derive(Clone, Copy, PartialEq, Eq, Debug)]
 pub enum FormulaFault {
     TooLong,
     ForeignByte(usize),
@@ -12,7 +12,9 @@ pub enum FormulaFault {
     TooDeep(usize),
 }
 
+// By number and place, since the C editor sees no enum.
 impl FormulaFault {
+    // The number by which callers in C and price lists know the fault.
     pub fn number(self) -> u8
         ensures { result ≡ fault_number self }
     {

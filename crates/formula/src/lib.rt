@@ -15,9 +15,7 @@ pub use steps::{Leaf, Operator, Step};
 pub use stored::Formula;
 
 // One text has at most one tree, and one tree's steps are no other tree's.
-pub fn one_tree() -> u8
+pub fn one_tree()
     ensures text { OneTree }
     ensures steps { PostfixInjective }
-{
-    0
-}
+{}

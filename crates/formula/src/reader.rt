@@ -1,73 +1,40 @@
-// Reads a text into postfix steps, one token after the other, by recursion on bracket depth and binding strength.
-ghost use Rattle.std.specs.Prelude.{◌≡◌, ℕ, ◌+◌, ◌-◌, ◌*◌, ◌<◌, ◌≤◌, false, List, [], ◌∷◌, ◌++◌, length, replicate, MatchResult, ◌≢◌, nat_le, nat_lt, slice_index};
+// Reads a text into postfix steps, one token after the other. The rules require the recursion on bracket depth and binding strength.
+ghost use Rattle.std.specs.Prelude.{◌≡◌, ℕ, ◌+◌, ◌<◌, ◌≤◌, false, ◌++◌, length, replicate, MatchResult, ◌≢◌, slice_index};
+ghost use Rattle.arrayvec.specs.ArrayVec.{array_vec_len};
 ghost use Rattle.formula.specs.declared.steps.Leaf.TheVariants.{Constant};
 ghost use Rattle.formula.specs.declared.steps.Token.TheVariants.{Negation};
 ghost use Rattle.formula.specs.Notation.{notation};
 ghost use Rattle.formula.specs.Grammar.{leaf, postfix};
 ghost use Rattle.formula.specs.Faults.{fault_place};
 ghost use Rattle.formula.specs.Answer.{steps_of, Read, Refused};
-ghost use Rattle.formula.specs.Reads.{written, Reads, Fails, Plain, After};
+ghost use Rattle.formula.specs.Reads.{Reads, Fails, Plain, After};
 
 use crate::faults::FormulaFault;
-use crate::steps::{Leaf, Operator, Step, StepBuffer, Token};
+use crate::steps::{Leaf, MAX_LENGTH, Step, Steps, Token};
 use crate::stored::Formula;
-
-pub const MAX_LENGTH: usize = 4096;
 
 const MAX_NESTING: usize = 32;
 
-fn classify(b: u8) -> Token
-    ensures { result ≡ notation b }
-{
-    match b {
-        b'&' => Token::Infix(5, Operator::And),
-        b'^' => Token::Infix(4, Operator::Xor),
-        b'|' => Token::Infix(3, Operator::Or),
-        b'>' => Token::Infix(2, Operator::Implies),
-        b'=' => Token::Infix(1, Operator::Iff),
-        b'!' => Token::Negation,
-        b'(' => Token::Opening,
-        b')' => Token::Closing,
-        b'0' => Token::Operand(Leaf::Constant(false)),
-        b'1' => Token::Operand(Leaf::Constant(true)),
-        b'a'..=b'l' => Token::Operand(Leaf::Option(b - b'a' + 1)),
-        _ => Token::Foreign,
-    }
-}
-
-fn push(out: &mut StepBuffer, s: Step)
-    requires { out.old.len < 4096 }
-    ensures len { out.new.len ≡ out.old.len + 1 }
-    ensures added { written out.new ≡ written out.old ++ s ∷ [] }
-{
-    out.steps[out.len] = s;
-    out.len += 1;
-}
-
-// How many `!` stand at `at`: counted by a loop, since a text may have thousands in a row.
+// How many `!` stand at `at`; a text may have thousands in a row.
 fn negations(text: &[u8], at: usize) -> usize
     requires { at ≤ length text.now }
     ensures within { at + result ≤ length text.now }
     ensures all { (k : ℕ) → k < result → notation (slice_index text.now (at + k)) ≡ Negation }
     ensures over { at + result < length text.now → notation (slice_index text.now (at + result)) ≢ Negation }
 {
-    let mut n = 0;
-    while n < text.len() - at {
-        let Token::Negation = classify(text[at + n]) else {
-            break;
-        };
-        n += 1;
-    }
-    n
+    text[at..]
+        .iter()
+        .take_while(|b| matches!(Token::from(**b), Token::Negation))
+        .count()
 }
 
-fn push_negations(out: &mut StepBuffer, n: usize)
-    requires { out.old.len + n ≤ 4096 }
-    ensures len { out.new.len ≡ out.old.len + n }
-    ensures added { written out.new ≡ written out.old ++ replicate n Step.Negate }
+// A loop, since `extend` would answer a failure that cannot come.
+fn push_negations(out: &mut Steps, n: usize)
+    requires { array_vec_len out.old + n ≤ 4096 }
+    ensures { out.new.items ≡ out.old.items ++ replicate n Step.Negate }
 {
-    for _i in 0..n {
-        push(out, Step::Negate);
+    for _ in 0..n {
+        out.push(Step::Negate);
     }
 }
 
@@ -75,60 +42,39 @@ fn push_negations(out: &mut StepBuffer, n: usize)
 fn unexpected(text: &[u8], at: usize) -> FormulaFault
     ensures { (fault_place result ≡ at) × Plain text.now result }
 {
-    if at < text.len() {
-        if let Token::Foreign = classify(text[at]) {
-            return FormulaFault::ForeignByte(at);
-        }
+    match text.get(at) {
+        Some(b) if Token::from(*b) == Token::Foreign => FormulaFault::ForeignByte(at),
+        _ => FormulaFault::Unexpected(at),
     }
-    FormulaFault::Unexpected(at)
-}
-
-// Whether no bracket may open inside `depth` others.
-fn too_deep(depth: usize) -> bool
-    ensures { result ≡ nat_le 32 depth }
-{
-    depth >= MAX_NESTING
-}
-
-fn too_long(len: usize) -> bool
-    ensures { result ≡ nat_lt 4096 len }
-{
-    len > MAX_LENGTH
 }
 
 // A letter, a constant or a formula in brackets; no `!` stands at `at`.
 #[cycle(level_operand_primary)]
-fn primary(
-    text: &[u8],
-    at: usize,
-    depth: usize,
-    out: &mut StepBuffer,
-) -> Result<usize, FormulaFault>
+fn primary(text: &[u8], at: usize, depth: usize, out: &mut Steps) -> Result<usize, FormulaFault>
     requires short { length text.now ≤ 4096 }
     requires within { at ≤ length text.now }
-    requires room { out.old.len ≤ at }
+    requires room { array_vec_len out.old ≤ at }
     requires deep { depth ≤ 32 }
     requires plain { at < length text.now → notation (slice_index text.now at) ≢ Negation }
-    ensures { MatchResult result (λ n. Reads text.now at depth 6 6 out.old out.new n) (λ e. Fails text.now at depth 6 e) }
+    ensures { MatchResult result (λ n. Reads text.now at depth 6 6 out.old.items out.new.items n) (λ e. Fails text.now at depth 6 e) }
 {
     if at >= text.len() {
         return Err(unexpected(text, at));
     }
-    match classify(text[at]) {
+    match Token::from(text[at]) {
         Token::Opening => {
-            if too_deep(depth) {
+            if depth >= MAX_NESTING {
                 return Err(FormulaFault::TooDeep(at));
             }
             let q = level(text, at + 1, depth + 1, 1, out)?;
-            if q < text.len() {
-                if let Token::Closing = classify(text[q]) {
-                    return Ok(q + 1);
-                }
+            if q < text.len() && Token::from(text[q]) == Token::Closing {
+                Ok(q + 1)
+            } else {
+                Err(unexpected(text, q))
             }
-            Err(unexpected(text, q))
         }
         Token::Operand(a) => {
-            push(out, Step::Load(a));
+            out.push(Step::Load(a));
             Ok(at + 1)
         }
         _ => Err(unexpected(text, at)),
@@ -137,17 +83,12 @@ fn primary(
 
 // An operand: its `!`s and what they stand before.
 #[cycle(level_operand_primary)]
-fn operand(
-    text: &[u8],
-    at: usize,
-    depth: usize,
-    out: &mut StepBuffer,
-) -> Result<usize, FormulaFault>
+fn operand(text: &[u8], at: usize, depth: usize, out: &mut Steps) -> Result<usize, FormulaFault>
     requires short { length text.now ≤ 4096 }
     requires within { at ≤ length text.now }
-    requires room { out.old.len ≤ at }
+    requires room { array_vec_len out.old ≤ at }
     requires deep { depth ≤ 32 }
-    ensures { MatchResult result (λ n. Reads text.now at depth 6 6 out.old out.new n) (λ e. Fails text.now at depth 6 e) }
+    ensures { MatchResult result (λ n. Reads text.now at depth 6 6 out.old.items out.new.items n) (λ e. Fails text.now at depth 6 e) }
 {
     let n = negations(text, at);
     let q = primary(text, at + n, depth, out)?;
@@ -162,26 +103,27 @@ fn level(
     at: usize,
     depth: usize,
     floor: u8,
-    out: &mut StepBuffer,
+    out: &mut Steps,
 ) -> Result<usize, FormulaFault>
     requires short { length text.now ≤ 4096 }
     requires within { at ≤ length text.now }
-    requires room { out.old.len ≤ at }
+    requires room { array_vec_len out.old ≤ at }
     requires deep { depth ≤ 32 }
     requires strong { floor ≤ 6 }
-    ensures { MatchResult result (λ n. Reads text.now at depth floor floor out.old out.new n) (λ e. Fails text.now at depth floor e) }
+    ensures { MatchResult result (λ n. Reads text.now at depth floor floor out.old.items out.new.items n) (λ e. Fails text.now at depth floor e) }
 {
     let mut p = operand(text, at, depth, out)?;
     let mut top = 5;
+    // The place moves by what an operand took, which only the recursion knows.
     while p < text.len() {
-        let Token::Infix(k, op) = classify(text[p]) else {
+        let Token::Infix(k, op) = Token::from(text[p]) else {
             break;
         };
         if k < floor || k > top {
             break;
         }
         p = level(text, p + 1, depth, k + 1, out)?;
-        push(out, Step::Apply(op));
+        out.push(Step::Apply(op));
         top = after(k);
     }
     Ok(p)
@@ -195,36 +137,39 @@ fn after(k: u8) -> u8
     if k < 3 { k - 1 } else { k }
 }
 
+impl TryFrom<&[u8]> for Formula {
+    type Error = FormulaFault;
+
+    ghost try_from_gives = { λ text r. MatchResult r (λ f. Read text.now f) (λ e. Refused text.now e) };
+
+    fn try_from(text: &[u8]) -> Result<Self, FormulaFault> {
+        if text.len() > MAX_LENGTH {
+            return Err(FormulaFault::TooLong);
+        }
+        let mut steps = Steps::new();
+        let end = level(text, 0, 0, 1, &mut steps)?;
+        if end < text.len() {
+            return Err(unexpected(text, end));
+        }
+        Ok(Formula { steps })
+    }
+}
+
 impl Formula {
     // The formula `0`, for `read` to write over.
     pub fn new() -> Self
         ensures { steps_of result ≡ postfix (leaf (Constant false)) }
     {
-        Formula {
-            steps: [Step::Load(Leaf::Constant(false)); 4096],
-            len: 1,
-        }
+        let mut steps = Steps::new();
+        steps.push(Step::Load(Leaf::Constant(false)));
+        Formula { steps }
     }
 
     // Reads a text; refused, the formula is as it was.
     pub fn read(&mut self, text: &[u8]) -> Result<(), FormulaFault>
         ensures { MatchResult result (λ _. Read text.now self.new) (λ e. Refused text.now e × (self.new ≡ self.old)) }
     {
-        if too_long(text.len()) {
-            return Err(FormulaFault::TooLong);
-        }
-        let mut fresh = StepBuffer {
-            steps: [Step::Negate; 4096],
-            len: 0,
-        };
-        let q = level(text, 0, 0, 1, &mut fresh)?;
-        if q < text.len() {
-            return Err(unexpected(text, q));
-        }
-        *self = Formula {
-            steps: fresh.steps,
-            len: fresh.len,
-        };
+        *self = Formula::try_from(text)?;
         Ok(())
     }
 
@@ -232,6 +177,6 @@ impl Formula {
     pub fn steps(&self) -> &[Step]
         ensures { result.now ≡ steps_of self.now }
     {
-        &self.steps[0..self.len]
+        self.steps.as_slice()
     }
 }

@@ -1,14 +1,17 @@
-ghost use Rattle.std.specs.Prelude.{◌≤◌};
+use arrayvec::ArrayVec;
+
+// The bytes that a text may have; each gives a step at most.
+pub const MAX_LENGTH: usize = 4096;
 
 // What a formula is built from: a constant, or an option by its number (1 for a, 12 for l).
-#[derive(Clone, Copy)]
+#[derive(Clone, Copy, PartialEq, Eq, Debug)]
 pub enum Leaf {
     Constant(bool),
     Option(u8),
 }
 
 // An operator between two operands.
-#[derive(Clone, Copy)]
+#[derive(Clone, Copy, PartialEq, Eq, Hash, Debug)]
 pub enum Operator {
     And,
     Xor,
@@ -18,15 +21,16 @@ pub enum Operator {
 }
 
 // One step of a formula in postfix form, on a stack of values.
-#[derive(Clone, Copy)]
+#[derive(Clone, Copy, Default, PartialEq, Eq, Debug)]
 pub enum Step {
     Load(Leaf),
+    #[default]
     Negate,
     Apply(Operator),
 }
 
 // What a byte stands for in the notation; an infix operator has its binding strength, 5 the tightest.
-#[derive(Clone, Copy)]
+#[derive(Clone, Copy, PartialEq, Eq)]
 pub enum Token {
     Operand(Leaf),
     Negation,
@@ -36,10 +40,5 @@ pub enum Token {
     Foreign,
 }
 
-// The steps written so far.
-#[derive(Drop)]
-pub struct StepBuffer {
-    pub steps: [Step; 4096],
-    pub len: usize,
-    ghost few: { len ≤ 4096 },
-}
+// The steps of a formula.
+pub type Steps = ArrayVec<Step, MAX_LENGTH>;

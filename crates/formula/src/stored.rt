@@ -1,13 +1,12 @@
-ghost use Rattle.std.specs.Prelude.{◌≤◌};
+ghost use Rattle.std.specs.Prelude.{◌≤◌, length};
 ghost use Rattle.formula.specs.Grammar.{IsPostfix};
 
-use crate::steps::Step;
+use crate::steps::Steps;
 
 // A formula that was read, by its postfix steps.
 #[derive(Drop)]
 pub struct Formula {
-    pub(crate) steps: [Step; 4096],
-    pub(crate) len: usize,
-    ghost few: { len ≤ 4096 },
-    ghost spelled: { ∥ IsPostfix steps len ∥₁ },
+    pub(crate) steps: Steps,
+    ghost few: { length steps.items ≤ 4096 },
+    ghost spelled: { ∥ IsPostfix steps.items ∥₁ },
 }

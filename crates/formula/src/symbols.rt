@@ -1,8 +1,29 @@
-// The notation's character for a step.
-ghost use Rattle.std.specs.Prelude.{ℕ, MatchOption};
-ghost use Rattle.formula.specs.Notation.{Shows};
+// The notation: what each byte stands for, and the character of each step.
+ghost use Rattle.std.specs.Prelude.{◌≡◌, ℕ, MatchOption};
+ghost use Rattle.formula.specs.Notation.{notation, Shows};
 
-use crate::steps::{Leaf, Operator, Step};
+use crate::steps::{Leaf, Operator, Step, Token};
+
+impl From<u8> for Token {
+    ghost from_gives = { λ b token. token ≡ notation b };
+
+    fn from(b: u8) -> Self {
+        match b {
+            b'&' => Token::Infix(5, Operator::And),
+            b'^' => Token::Infix(4, Operator::Xor),
+            b'|' => Token::Infix(3, Operator::Or),
+            b'>' => Token::Infix(2, Operator::Implies),
+            b'=' => Token::Infix(1, Operator::Iff),
+            b'!' => Token::Negation,
+            b'(' => Token::Opening,
+            b')' => Token::Closing,
+            b'0' => Token::Operand(Leaf::Constant(false)),
+            b'1' => Token::Operand(Leaf::Constant(true)),
+            b'a'..=b'l' => Token::Operand(Leaf::Option(b - b'a' + 1)),
+            _ => Token::Foreign,
+        }
+    }
+}
 
 impl Step {
     // Every step of a formula has one; an option number outside 1 to 12 has none.

@@ -6,21 +6,6 @@ use std::process::Abort;
 use std::test::Fail;
 use table::{Node, NodeTable, PlainTable};
 
-#[derive(Drop)]
-struct Text {
-    bytes: [u8; 4096],
-    len: usize,
-}
-
-impl Text {
-    fn push(&mut self, b: u8) {
-        if self.len < 4096 {
-            self.bytes[self.len] = b;
-            self.len += 1;
-        }
-    }
-}
-
 const OPERATORS: [u8; 5] = [b'&', b'^', b'|', b'>', b'='];
 
 fn next(seed: u32) -> u32 {
@@ -28,26 +13,26 @@ fn next(seed: u32) -> u32 {
 }
 
 // Appends a formula of at most the depth, and returns the next seed.
-fn grow(text: &mut Text, seed: u32, depth: u8) -> u32 {
+fn grow(text: &mut Vec<u8>, seed: u32, depth: u8) -> Result<u32, Fail> {
     let kind = (seed >> 16) % 16;
     if depth == 0 || kind < 3 {
-        text.push(b'a' + ((seed >> 20) % 12) as u8);
-        return next(seed);
+        text.push(b'a' + ((seed >> 20) % 12) as u8)?;
+        return Ok(next(seed));
     }
     if kind == 3 {
-        text.push(b'0' + ((seed >> 20) % 2) as u8);
-        return next(seed);
+        text.push(b'0' + ((seed >> 20) % 2) as u8)?;
+        return Ok(next(seed));
     }
     if kind < 7 {
-        text.push(b'!');
+        text.push(b'!')?;
         return grow(text, next(seed), depth - 1);
     }
-    text.push(b'(');
-    let middle = grow(text, next(seed), depth - 1);
-    text.push(OPERATORS[((middle >> 20) % 5) as usize]);
-    let end = grow(text, next(middle), depth - 1);
-    text.push(b')');
-    end
+    text.push(b'(')?;
+    let middle = grow(text, next(seed), depth - 1)?;
+    text.push(OPERATORS[((middle >> 20) % 5) as usize])?;
+    let end = grow(text, next(middle), depth - 1)?;
+    text.push(b')')?;
+    Ok(end)
 }
 
 // What a handle answers at a version, by going down from node to node.
@@ -78,18 +63,17 @@ fn compare<T: NodeTable>(rt: &impl Abort, graph: &mut Graph<T>, text: &[u8]) -> 
     Ok(())
 }
 
-fn compare_many<T: NodeTable + Drop>(rt: &impl Abort, table: T, count: u32) -> Result<(), Fail> {
+fn compare_many<T: NodeTable + Drop>(
+    rt: &(impl Abort + AllocGlobal),
+    table: T,
+    count: u32,
+) -> Result<(), Fail> {
     let mut graph = Graph::new(table);
     let mut seed = 1;
     for _ in 0..count {
-        let mut text = Text {
-            bytes: [0; 4096],
-            len: 0,
-        };
-        seed = grow(&mut text, seed, 5);
-        if text.len <= 4096 {
-            compare(rt, &mut graph, &text.bytes[0..text.len])?;
-        }
+        let mut text = Vec::new(rt.alloc());
+        seed = grow(&mut text, seed, 5)?;
+        compare(rt, &mut graph, text.as_slice())?;
     }
     Ok(())
 }
@@ -102,10 +86,6 @@ fn packed_random(rt: HostRuntime) -> Result<(), Fail> {
 
 #[test]
 fn plain_random(rt: HostRuntime) -> Result<(), Fail> {
-    let mut run = vec![in rt.alloc(); Node {
-        level: 0,
-        low: 0,
-        high: 0
-    }; 20000]?;
+    let mut run = vec![in rt.alloc(); Node::default(); 20000]?;
     compare_many(&rt, PlainTable::new(run.as_mut_slice()), 100)
 }

@@ -77,12 +77,6 @@ word_code wanted absent = ⊥
 word_code wanted refused = ⊥
 word_code wanted wanted = Unit {0}
 
-word_code_refl : (w : Word) → word_code w w
-unfolding word_code
-word_code_refl absent = tt
-word_code_refl refused = tt
-word_code_refl wanted = tt
-
 word_dec : (x y : Word) → Dec (x ≡ y)
 unfolding word_code
 word_dec absent absent = yes refl

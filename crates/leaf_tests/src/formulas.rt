@@ -1,73 +1,68 @@
 use formula::Formula;
 
-// The number and the place of a refusal; 0 and the count of steps for a formula.
-fn answer(text: &[u8]) -> (u8, usize) {
+// The count of a formula's steps, or the number and the place of a refusal.
+fn answer(text: &[u8]) -> Result<usize, (u8, usize)> {
     let mut f = Formula::new();
-    match f.read(text) {
-        Ok(()) => (0, f.steps().len()),
-        Err(e) => (e.number(), e.place()),
-    }
+    f.read(text).map_err(|e| (e.number(), e.place()))?;
+    Ok(f.steps().len())
 }
 
-const ANSWERS: [(&[u8], u8, usize); 40] = [
-    (b"a", 0, 1),
-    (b"a&b|!a&c", 0, 8),
-    (b"!!!(a^b)&!1", 0, 9),
-    (b"a>b=c>d", 0, 7),
-    (b"(a>b)>c", 0, 5),
-    (b"((l))", 0, 1),
-    (b"", 3, 0),
-    (b"a&", 3, 2),
-    (b"aZ", 2, 1),
-    (b"a)Z", 3, 1),
-    (b"a>b>c", 3, 3),
-    (b"a=b=c", 3, 3),
-    (b"a=b>c=d", 3, 5),
-    (b"a>b|c>d", 3, 5),
-    (b"a(b", 3, 1),
-    (b"a!b", 3, 1),
-    (b"ab", 3, 1),
-    (b"(a", 3, 2),
-    (b"(a))", 3, 3),
-    (b"()", 3, 1),
-    (b"&a", 3, 0),
-    (b"!", 3, 1),
-    (b"a b", 2, 1),
-    (b"m", 2, 0),
-    (b"A", 2, 0),
-    (b"2", 2, 0),
-    (b"a,b", 2, 1),
+const ANSWERS: [(&[u8], Result<usize, (u8, usize)>); 40] = [
+    (b"a", Ok(1)),
+    (b"a&b|!a&c", Ok(8)),
+    (b"!!!(a^b)&!1", Ok(9)),
+    (b"a>b=c>d", Ok(7)),
+    (b"(a>b)>c", Ok(5)),
+    (b"((l))", Ok(1)),
+    (b"", Err((3, 0))),
+    (b"a&", Err((3, 2))),
+    (b"aZ", Err((2, 1))),
+    (b"a)Z", Err((3, 1))),
+    (b"a>b>c", Err((3, 3))),
+    (b"a=b=c", Err((3, 3))),
+    (b"a=b>c=d", Err((3, 5))),
+    (b"a>b|c>d", Err((3, 5))),
+    (b"a(b", Err((3, 1))),
+    (b"a!b", Err((3, 1))),
+    (b"ab", Err((3, 1))),
+    (b"(a", Err((3, 2))),
+    (b"(a))", Err((3, 3))),
+    (b"()", Err((3, 1))),
+    (b"&a", Err((3, 0))),
+    (b"!", Err((3, 1))),
+    (b"a b", Err((2, 1))),
+    (b"m", Err((2, 0))),
+    (b"A", Err((2, 0))),
+    (b"2", Err((2, 0))),
+    (b"a,b", Err((2, 1))),
     (
         b"((((((((((((((((((((((((((((((((l))))))))))))))))))))))))))))))))",
-        0,
-        1,
+        Ok(1),
     ),
     (
         b"(((((((((((((((((((((((((((((((((l)))))))))))))))))))))))))))))))))",
-        4,
-        32,
+        Err((4, 32)),
     ),
     (
         b"a(((((((((((((((((((((((((((((((((l)))))))))))))))))))))))))))))))))",
-        3,
-        1,
+        Err((3, 1)),
     ),
-    (b"((((((((((((((((((((((((((((((((a(", 3, 33),
-    (b"((((((((((((((((((((((((((((((((!(", 4, 33),
-    (b"((((((((((((((((((((((((((((((((a&(", 4, 34),
-    (b"((((((((((((((((((((((((((((((((", 3, 32),
-    (b"((((((((((((((((((((((((((((((((Z", 2, 32),
-    (b"\x00", 2, 0),
-    (b"a\n", 2, 1),
-    (b"a\r\n", 2, 1),
-    (b"a&\x7f", 2, 2),
-    (b"a|\xff", 2, 2),
+    (b"((((((((((((((((((((((((((((((((a(", Err((3, 33))),
+    (b"((((((((((((((((((((((((((((((((!(", Err((4, 33))),
+    (b"((((((((((((((((((((((((((((((((a&(", Err((4, 34))),
+    (b"((((((((((((((((((((((((((((((((", Err((3, 32))),
+    (b"((((((((((((((((((((((((((((((((Z", Err((2, 32))),
+    (b"\x00", Err((2, 0))),
+    (b"a\n", Err((2, 1))),
+    (b"a\r\n", Err((2, 1))),
+    (b"a&\x7f", Err((2, 2))),
+    (b"a|\xff", Err((2, 2))),
 ];
 
 #[test]
 fn answers(rt: HostRuntime) {
-    for row in ANSWERS {
-        assert_eq!(rt; answer(row.0), (row.1, row.2));
+    for (text, expected) in ANSWERS {
+        assert_eq!(rt; answer(text), expected);
     }
 }
 
@@ -96,9 +91,9 @@ const COUNTS: [(&[u8], u16); 19] = [
 #[test]
 fn counts(rt: HostRuntime) {
     let mut f = Formula::new();
-    for row in COUNTS {
-        assert!(rt; f.read(row.0).is_ok());
-        assert_eq!(rt; f.count_yes(), row.1);
+    for (text, expected) in COUNTS {
+        assert!(rt; f.read(text).is_ok());
+        assert_eq!(rt; f.count_yes(), expected);
     }
 }
 
@@ -108,9 +103,9 @@ const STRANGE: [u8; 6] = [0, 10, 13, 127, 128, 255];
 #[test]
 fn strange_bytes(rt: HostRuntime) {
     for b in STRANGE {
-        assert_eq!(rt; answer(&[b, b'&', b'a']), (2, 0));
-        assert_eq!(rt; answer(&[b'a', b, b'a']), (2, 1));
-        assert_eq!(rt; answer(&[b'a', b'&', b]), (2, 2));
+        assert_eq!(rt; answer(&[b, b'&', b'a']), Err((2, 0)));
+        assert_eq!(rt; answer(&[b'a', b, b'a']), Err((2, 1)));
+        assert_eq!(rt; answer(&[b'a', b'&', b]), Err((2, 2)));
     }
 }
 
@@ -118,15 +113,15 @@ fn strange_bytes(rt: HostRuntime) {
 #[test]
 fn long_texts(rt: HostRuntime) {
     let mut text = [b'!'; 4096];
-    assert_eq!(rt; answer(&text), (3, 4096));
+    assert_eq!(rt; answer(&text), Err((3, 4096)));
     text[4095] = b'a';
-    assert_eq!(rt; answer(&text), (0, 4096));
-    assert_eq!(rt; answer(&[b'a'; 4096]), (3, 1));
-    assert_eq!(rt; answer(&[b'('; 4096]), (4, 32));
-    assert_eq!(rt; answer(&[b')'; 4096]), (3, 0));
-    assert_eq!(rt; answer(&[b'!'; 4097]), (1, 4096));
-    assert_eq!(rt; answer(&[0; 4097]), (1, 4096));
-    assert_eq!(rt; answer(&[b'('; 100000]), (1, 4096));
+    assert_eq!(rt; answer(&text), Ok(4096));
+    assert_eq!(rt; answer(&[b'a'; 4096]), Err((3, 1)));
+    assert_eq!(rt; answer(&[b'('; 4096]), Err((4, 32)));
+    assert_eq!(rt; answer(&[b')'; 4096]), Err((3, 0)));
+    assert_eq!(rt; answer(&[b'!'; 4097]), Err((1, 4096)));
+    assert_eq!(rt; answer(&[0; 4097]), Err((1, 4096)));
+    assert_eq!(rt; answer(&[b'('; 100000]), Err((1, 4096)));
 }
 
 fn fill_with_noise(text: &mut [u8]) {

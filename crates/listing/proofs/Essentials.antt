@@ -1,23 +1,30 @@
 -- Where the counts are those of a condition's primes, a prime has a version with the count one exactly if it is essential. Assumes nothing.
-use Rattle.std.proofs.Common.{◌≡◌, ℕ, zero, suc, ◌+◌, ◌*◌, ◌≤◌, min, Bool, true, false, cond, ◌↔◌, List, [], ◌∷◌, ◌++◌, get_or, replicate, sym, refl, ap, ◌∙◌, inl, inr, arith}
+use Rattle.std.proofs.Common.{◌≡◌, ℕ, zero, suc, ◌+◌, ◌*◌, ◌≤◌, Bool, true, false, cond, ◌↔◌, List, [], ◌∷◌, ◌++◌, get_or, replicate, sym, refl, ap, ◌∙◌, inl, inr, arith}
 use Rattle.std.proofs.lemmas.List.Sums.{sum_by-cons, sum_by_push}
-use Rattle.std.proofs.lemmas.Bool.{eqb-true, eq-eqb, or_cases, or_left, or_right, cond-true, cond-false, cases_Bool, false≢true}
+use Rattle.std.proofs.lemmas.Bool.{or_cases, or_left, or_right, cond-true, cond-false, cases_Bool, false≢true}
 use Rattle.product.specs.Words.{Words, Version, absent, refused, wanted, meets}
 use Rattle.product.specs.Lists.{In, Rising}
 use Rattle.implicant.specs.Implicants.{Condition, Prime, Essential}
-use Rattle.listing.specs.Counts.{place, met, one_more, Marked, Counted, alone, alone_of}
+use Rattle.listing.specs.declared.counts.Count.{Count}
+use Rattle.listing.specs.declared.counts.Count.TheVariants.{Zero, One, Many}
+use Rattle.listing.specs.Counts.{place, met, count_of, one_more, is_one, Marked, Counted, alone, alone_of}
 use Rattle.listing.proofs.Rising.{not_above}
 
+one_is : (c : Count) → is_one c ≡ true → c ≡ One
+one_is Zero e = cc
+one_is One e = refl
+one_is Many e = cc
+
 -- a version that meets p and has the count one
-record Lone (n : ℕ) (counts : List ℕ) (prefix : ℕ) (p : Words n) : Type 0 where
+record Lone (n : ℕ) (counts : List Count) (prefix : ℕ) (p : Words n) : Type 0 where
   version : Version n
   meets_p : meets n p version ≡ true
-  one : get_or counts (place n prefix version) 0 ≡ 1
+  one : get_or counts (place n prefix version) Zero ≡ One
 
-module _ (counts : List ℕ) where
+module _ (counts : List Count) where
   alone_has : (n prefix : ℕ) (p : Words n) → alone n counts prefix p ≡ true → Lone n counts prefix p
   unfolding alone
-  alone_has zero prefix p e = record { version = tt; meets_p = refl; one = eqb-true (get_or counts prefix 0) 1 e }
+  alone_has zero prefix p e = record { version = tt; meets_p = refl; one = one_is (get_or counts prefix Zero) e }
   alone_has (suc n) prefix (absent, p) e =
       elim (or_cases (alone n counts (2 * prefix) p) (alone n counts (2 * prefix + 1) p) e) [
         | inl x ↦ let w = alone_has n (2 * prefix) p x in record { version = (false, w.version); meets_p = w.meets_p; one = w.one }
@@ -28,9 +35,9 @@ module _ (counts : List ℕ) where
   alone_has (suc n) prefix (wanted, p) e =
       let w = alone_has n (2 * prefix + 1) p e in record { version = (true, w.version); meets_p = w.meets_p; one = w.one }
 
-  has_alone : (n prefix : ℕ) (p : Words n) (v : Version n) → meets n p v ≡ true → get_or counts (place n prefix v) 0 ≡ 1 → alone n counts prefix p ≡ true
+  has_alone : (n prefix : ℕ) (p : Words n) (v : Version n) → meets n p v ≡ true → get_or counts (place n prefix v) Zero ≡ One → alone n counts prefix p ≡ true
   unfolding alone
-  has_alone zero prefix p v m e = eq-eqb (get_or counts prefix 0) 1 e
+  has_alone zero prefix p v m e = ap is_one e
   has_alone (suc n) prefix (absent, p) (true, v) m e = or_right (alone n counts (2 * prefix) p) (alone n counts (2 * prefix + 1) p) (has_alone n (2 * prefix + 1) p v m e)
   has_alone (suc n) prefix (absent, p) (false, v) m e = or_left (alone n counts (2 * prefix) p) (alone n counts (2 * prefix + 1) p) (has_alone n (2 * prefix) p v m e)
   has_alone (suc n) prefix (refused, p) (true, v) m e = absurd (false≢true m)
@@ -98,13 +105,15 @@ module _ (n : ℕ) (v : Version n) where
       ]
 
 -- the mark of a product is Y exactly where it is essential
-pub essential_is : (f : Condition 12) (ps : List (Words 12)) (counts : List ℕ) → ((p : Words 12) → Prime 12 f p ↔ In 12 p ps) → Rising 12 ps → Counted ps counts
+pub essential_is : (f : Condition 12) (ps : List (Words 12)) (counts : List Count) → ((p : Words 12) → Prime 12 f p ↔ In 12 p ps) → Rising 12 ps → Counted ps counts
     → (p : Words 12) → In 12 p ps → (alone_of counts p ≡ true) ↔ Essential 12 f p
 unfolding alone_of
 essential_is f ps counts primes rising counted p i = (there, back)
   where
-    few : (k : ℕ) → min 2 k ≡ 1 → k ≡ 1
-    few k e = omega arith
+    few : (k : ℕ) → count_of k ≡ One → k ≡ 1
+    few zero e = cc
+    few (suc zero) e = refl
+    few (suc (suc k)) e = cc
 
     there : alone 12 counts 0 p ≡ true → Essential 12 f p
     there e =
@@ -117,23 +126,25 @@ essential_is f ps counts primes rising counted p i = (there, back)
     back : Essential 12 f p → alone 12 counts 0 p ≡ true
     back x =
         let one = one_met 12 x.version ps p rising i x.met (λ q j m. x.only q ((primes q).1 j) m) in
-        has_alone counts 12 0 p x.version x.met (counted.each x.version ∙ ap (min 2) one)
+        has_alone counts 12 0 p x.version x.met (counted.each x.version ∙ ap count_of one)
 
-pub counted_none : (counts : List ℕ) → counts ≡ replicate 4096 0 → Counted [] counts
-counted_none counts clear = record { each = λ v. ap (λ (z : List ℕ). get_or z (place 12 0 v) 0) clear ∙ zeros 4096 (place 12 0 v) }
+pub counted_none : (counts : List Count) → counts ≡ replicate 4096 Zero → Counted [] counts
+counted_none counts clear = record { each = λ v. ap (λ (z : List Count). get_or z (place 12 0 v) Zero) clear ∙ zeros 4096 (place 12 0 v) }
   where
-    zeros : (n i : ℕ) → ◌≡◌ {A = ℕ} (get_or (replicate n 0) i 0) 0
+    zeros : (n i : ℕ) → get_or (replicate n Zero) i Zero ≡ Zero
     zeros zero i = refl
     zeros (suc n) zero = refl
     zeros (suc n) (suc i) = zeros n i
 
 -- the counts after one product more
-pub counted_more : (ps : List (Words 12)) (p : Words 12) (old new : List ℕ) → Counted ps old → Marked 12 0 p old new → Counted (ps ++ (p ∷ [])) new
+pub counted_more : (ps : List (Words 12)) (p : Words 12) (old new : List Count) → Counted ps old → Marked 12 0 p old new → Counted (ps ++ (p ∷ [])) new
 unfolding adds
 counted_more ps p old new c m = record {
-  each = λ v. m.inside v ∙ ap (λ (z : ℕ). cond (meets 12 p v) (one_more z) z) (c.each v) ∙ step (meets 12 p v) (met 12 ps v) ∙ ap (min 2) (sym (met_last 12 v ps p));
+  each = λ v. m.inside v ∙ ap (λ (z : Count). cond (meets 12 p v) (one_more z) z) (c.each v) ∙ step (meets 12 p v) (met 12 ps v) ∙ ap count_of (sym (met_last 12 v ps p));
 }
   where
-    step : (b : Bool) (k : ℕ) → cond b (one_more (min 2 k)) (min 2 k) ≡ min 2 (k + cond b 1 0)
-    step true k = omega arith
-    step false k = ap (min 2) (omega arith)
+    step : (b : Bool) (k : ℕ) → cond b (one_more (count_of k)) (count_of k) ≡ count_of (k + cond b 1 0)
+    step true zero = refl
+    step true (suc zero) = refl
+    step true (suc (suc k)) = sym (ap count_of {y = suc (suc (suc k))} (omega arith))
+    step false k = ap count_of {x = k} (omega arith)

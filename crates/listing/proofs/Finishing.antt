@@ -1,22 +1,27 @@
 -- The whole list, by what the three passes leave. Assumes nothing.
-use Rattle.std.proofs.Common.{◌≡◌, ℕ, ◌+◌, ◌*◌, ◌<◌, ◌≤◌, Bool, ◌↔◌, List, [], ◌∷◌, ◌++◌, length, drop, Ok, Err, sym, refl, ap, ◌∙◌, subst, arith, length-append}
+use Rattle.std.proofs.Common.{◌≡◌, ℕ, ◌+◌, ◌*◌, ◌<◌, ◌≤◌, Bool, List, [], ◌∷◌, ◌++◌, length, drop, Ok, Err, sym, refl, ap, ◌∙◌, subst, arith, length-append}
 use Rattle.std.proofs.lemmas.Fmt.{length-decimal-le}
 use Rattle.std.proofs.lemmas.List.Sums.{count_by-le-length}
 use Rattle.product.specs.Words.{Words}
-use Rattle.product.specs.Lists.{In, Rising}
+use Rattle.product.specs.Lists.{Rising}
 use Rattle.product.specs.Products.{number_of, size_of, letters_of}
-use Rattle.product.specs.Put.{Put}
-use Rattle.product.proofs.Putting.{put_two, put_as, put_first}
+use Rattle.decimal.specs.declared.outputs.Output.{Output}
+use Rattle.decimal.specs.Put.{Put}
+use Rattle.decimal.specs.Outputs.{Puts}
+use Rattle.decimal.proofs.Putting.{put_first}
+use Rattle.decimal.proofs.Writing.{puts_two, puts_as}
 use Rattle.product.proofs.Sealed.{of_words, number_few, size_by_ones, ones_few, letters_by_ones}
 use Rattle.diagram.specs.Functions.{Fun}
-use Rattle.implicant.specs.Implicants.{Condition, Prime}
+use Rattle.implicant.specs.Implicants.{Condition}
 use Rattle.implicant.specs.Lists.{listed}
 use Rattle.implicant.specs.Variables.{products_of, ArePrimes}
 use Rattle.implicant.proofs.Ordering.{listed_once, primes_listed}
 use Rattle.listing.specs.declared.faults.ListFault.TheVariants.{ShortOutput}
+use Rattle.listing.specs.declared.counts.Count.{Count}
+use Rattle.listing.specs.declared.totals.Totals.{Totals}
 use Rattle.listing.specs.Counts.{Counted, alone_of}
 use Rattle.listing.specs.Listing.{row, last_row, rows, listing, IsList}
-use Rattle.listing.specs.Received.{Sized, Begun, Measured}
+use Rattle.listing.specs.Received.{Sized, Measured, Begun}
 use Rattle.listing.specs.Outcome.{Listed}
 use Rattle.listing.proofs.Essentials.{essential_is}
 use Rattle.listing.proofs.Rising.{rising_few}
@@ -47,50 +52,48 @@ rows_few marked (p ∷ ps) =
     omega (arith, length-append (row p (marked p)) (rows marked ps), row_few p (marked p), rows_few marked ps)
 
 -- nothing was so long or so many that a sum stopped
-pub measured : (ps : List (Words 12)) (old new : List ℕ) (b m n : ℕ) → Rising 12 ps → Counted ps old → new ≡ old → Sized (alone_of old) ps b m n → Measured ps new b m n
-measured ps old new b m n rising counted same s =
+pub measured : (marked : Words 12 → Bool) (ps : List (Words 12)) (t : Totals) → Rising 12 ps → Sized marked ps t → Measured marked ps t
+measured marked ps t rising s =
     let few = rising_few 12 ps rising in
-    let long = rows_few (alone_of old) ps in
-    let some = count_by-le-length (alone_of old) ps in
-    let size : b ≡ length (rows (alone_of old) ps) = omega (arith, s.size) in
-    subst (λ (z : List ℕ). Measured ps z b m n) (sym same) (record { counted = counted; size = size; few = omega arith; all = omega (arith, s.all); some = omega (arith, s.some) })
+    let long = rows_few marked ps in
+    let some = count_by-le-length marked ps in
+    let size : t.bytes ≡ length (rows marked ps) = omega (arith, s.size) in
+    record { size = size; few = omega arith; all = omega (arith, s.all); some = omega (arith, s.some) }
 
--- the last row has room behind the others, and with it the list is written
-pub record Finish (g : Fun) (m n at : ℕ) (old out : List ℕ) : Type 0 where
-  pub room : at + length (last_row m n) ≤ length out
-  pub done : (r : ℕ) (new : List ℕ) → Put (last_row m n) at out new r → Listed g (Ok r) old new
+-- ps are the products of the set g, and their counts and totals are known
+module _ (g : Fun) (counts : List Count) (t : Totals) (counted : Counted (listed 12 (products_of g)) counts) (totals : Measured (alone_of counts) (listed 12 (products_of g)) t) where
+  abbrev ps : List (Words 12)
+  ps = listed 12 (products_of g)
 
--- ps are the products of the set g, and their counts and sizes are known
-module _ (g : Fun) (ps : List (Words 12)) (is : ps ≡ listed 12 (products_of g)) (counts : List ℕ) (b m n : ℕ) (sizes : Measured ps counts b m n) where
   -- the bytes of the list
   whole : List ℕ
   whole = listing (alone_of counts) ps
 
-  whole_is : rows (alone_of counts) ps ++ last_row m n ≡ whole
+  whole_is : rows (alone_of counts) ps ++ last_row t.primes t.essential ≡ whole
   unfolding listing whole
-  whole_is = λ i. rows (alone_of counts) ps ++ last_row (sizes.all i) (sizes.some i)
+  whole_is = λ i. rows (alone_of counts) ps ++ last_row (totals.all i) (totals.some i)
 
-  whole_length : length whole ≡ b + length (last_row m n)
-  whole_length = sym (ap length whole_is) ∙ length-append (rows (alone_of counts) ps) (last_row m n) ∙ ap (λ (z : ℕ). z + length (last_row m n)) (sym sizes.size)
+  whole_length : length whole ≡ t.bytes + length (last_row t.primes t.essential)
+  whole_length = sym (ap length whole_is) ∙ length-append (rows (alone_of counts) ps) (last_row t.primes t.essential) ∙ ap (λ (z : ℕ). z + length (last_row t.primes t.essential)) (sym totals.size)
 
   is_list : (f : Condition 12) → ArePrimes 12 0 f g → IsList f whole
   unfolding whole
   is_list f are =
-      let rising : Rising 12 ps = subst (Rising 12) (sym is) (listed_once 12 (products_of g)).1 in
-      let primes : (p : Words 12) → Prime 12 f p ↔ In 12 p ps = λ p. subst (λ (z : List (Words 12)). Prime 12 f p ↔ In 12 p z) (sym is) (primes_listed f g are p) in
-      record { products = ps; primes = primes; rising = rising; marked = alone_of counts; essential = essential_is f ps counts primes rising sizes.counted; are = refl }
+      let once = listed_once 12 (products_of g) in
+      let primes = primes_listed f g are in
+      record { products = ps; primes = primes; rising = once.1; marked = alone_of counts; essential = essential_is f ps counts primes once.1 counted; are = refl }
 
-  pub refused : (old : List ℕ) → length old < b + length (last_row m n) → Listed g (Err ShortOutput) old old
+  pub refused : (old : List ℕ) → length old < t.bytes + length (last_row t.primes t.essential) → Listed g (Err ShortOutput) old old
   refused old short = record { bytes = whole; are = is_list; outcome = (omega (arith, whole_length), refl, refl) }
 
-  pub finish : (at : ℕ) (old out : List ℕ) → b + length (last_row m n) ≤ length old → Begun (alone_of counts) ps at old out → Finish g m n at old out
-  finish at old out room begun = record { room = omega (arith, first.value, sizes.size, begun.same); done = done }
-    where
-      first : Put (rows (alone_of counts) ps) 0 old out at
-      first = begun.put (omega (arith, sizes.size))
+  -- the whole list fits, and its rows are written onto an output that began with nothing
+  module _ {start now : Output} (none : start.at ≡ 0) (fits : t.bytes + length (last_row t.primes t.essential) ≤ length start.run.now) (begun : Begun (alone_of counts) ps start now) where
+    first : Puts (rows (alone_of counts) ps) start now
+    first = begun.puts (omega (arith, totals.size))
 
-      done : (r : ℕ) (new : List ℕ) → Put (last_row m n) at out new r → Listed g (Ok r) old new
-      done r new x =
-          let put : Put whole 0 old new r = put_as _ _ 0 r old new whole_is (put_two (rows (alone_of counts) ps) (last_row m n) 0 at r old out new first x) in
-          let end : r ≡ length whole = omega (arith, put.value) in
-          record { bytes = whole; are = is_list; outcome = (end, omega (arith, whole_length), put_first whole old new r put ∙ ap (λ (z : ℕ). whole ++ drop z old) end) }
+    pub finished : (n : ℕ) (old out : List ℕ) {new : Output} → Puts (last_row t.primes t.essential) now new → n ≡ new.at → old ≡ start.run.now → out ≡ new.run.now → Listed g (Ok n) old out
+    finished n old out {new} x is was became =
+        let all = (puts_as whole_is (puts_two first x)).put in
+        let put : Put whole 0 old out n = coe 0 1 (i. Put whole (none i) (sym was i) (sym became i) (sym is i)) all in
+        let end : n ≡ length whole = omega (arith, put.value) in
+        record { bytes = whole; are = is_list; outcome = (end, omega (arith, whole_length, ap length was), put_first whole old out n put ∙ ap (λ (z : ℕ). whole ++ drop z old) end) }

@@ -1,5 +1,5 @@
 mod Marking
-mod Rowing
+pub mod Rowing
 mod Rising
 mod Essentials
 mod Unique

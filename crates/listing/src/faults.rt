@@ -1,12 +1,14 @@
 ghost use Rattle.std.specs.Prelude.{◌≡◌};
 ghost use Rattle.listing.specs.Faults.{fault_number, fault_place};
 
-#[derive(Clone, Copy)]
+// Its own type, since a list is refused in no other way.
+#[derive(Clone, Copy, PartialEq, Eq, Debug)]
 pub enum ListFault {
     ShortOutput,
 }
 
 impl ListFault {
+    // The number that price lists have for this fault, here as in every enum of faults.
     pub fn number(self) -> u8
         ensures { result ≡ fault_number self }
     {

@@ -1,4 +1,4 @@
-// The list of a condition, written from the product set of its primes: inner code, whose functions have `requires`; only the engine above calls them.
+// The list of a condition, written from the product set of its primes: inner code, whose functions have `requires`; only the inner crates and the engine above call them.
 #![tactic(auto)]
 
 mod counts;
@@ -6,6 +6,7 @@ mod faults;
 mod receivers;
 mod rows;
 mod theorems;
+mod totals;
 mod writing;
 
 pub use faults::ListFault;

@@ -1,65 +1,60 @@
-ghost use Rattle.std.specs.Prelude.{◌≡◌, ◌+◌, nat_le};
+ghost use Rattle.std.specs.Prelude.{◌≡◌, [], refl};
 ghost use Rattle.listing.specs.Counts.{Counted, alone_of};
-ghost use Rattle.listing.specs.Received.{Sized, Begun};
+ghost use Rattle.listing.specs.Received.{Sized, Begun, begun_none};
 
-use crate::counts::{count_product, is_essential};
+use crate::counts::Counter;
 use crate::rows::{put_row, row_len};
+use crate::totals::Totals;
+use decimal::Output;
 use product::Product;
 use set_walk::Receiver;
 
 // Counts each product at the versions that meet it.
-#[derive(Drop)]
-pub(crate) struct Counter;
-
 impl Receiver for Counter {
-    ghost fed = { λ cs os s counts out ps. Counted ps counts };
+    ghost fed = { λ start now ps. Counted [] start.counts → Counted ps now.counts };
 
-    fn take(&mut self, counts: &mut [u8], _out: &mut [u8], product: Product) {
-        count_product(counts, product);
+    ghost begins = { λ r h. h };
+
+    fn take(&mut self, product: Product) {
+        self.add(product);
     }
 }
 
-// Adds up the bytes of the rows, the products and the essential ones.
+// Adds up the rows of products.
 #[derive(Drop)]
-pub(crate) struct Sizer {
-    pub(crate) bytes: usize,
-    pub(crate) primes: u32,
-    pub(crate) essential: u32,
+pub(crate) struct Sizer<'a> {
+    pub(crate) counter: &'a Counter,
+    pub(crate) totals: Totals,
 }
 
-impl Receiver for Sizer {
-    ghost fed = { λ cs os s counts out ps. (counts ≡ cs) × Sized (alone_of cs) ps s.bytes s.primes s.essential };
+impl Receiver for Sizer<'_> {
+    ghost fed = { λ start now ps. (now.counter ≡ start.counter) × (Sized (alone_of start.counter.now.counts) [] start.totals → Sized (alone_of start.counter.now.counts) ps now.totals) };
 
-    fn take(&mut self, counts: &mut [u8], _out: &mut [u8], product: Product) {
-        let marked = is_essential(counts, product);
-        self.bytes = self.bytes.saturating_add(row_len(product));
-        self.primes = self.primes.saturating_add(1);
-        self.essential = self.essential.saturating_add(marked as u32);
+    ghost begins = { λ r. (refl, λ h. h) };
+
+    fn take(&mut self, product: Product) {
+        let marked = self.counter.is_essential(product);
+        self.totals.add(row_len(product), marked);
     }
 }
 
-// Whether a row fits from a place on.
-fn has_room(size: usize, at: usize, len: usize) -> bool
-    ensures { result ≡ nat_le (at + len) size }
-{
-    len <= size && at <= size - len
-}
-
-// Writes the rows one after another, as far as they fit.
+// Writes the rows of products one after another, as far as they fit.
 #[derive(Drop)]
-pub(crate) struct Writer {
-    pub(crate) at: usize,
+pub(crate) struct Writer<'a, 'o> {
+    pub(crate) counter: &'a Counter,
+    pub(crate) output: &'a mut Output<'o>,
 }
 
-impl Receiver for Writer {
-    ghost fed = { λ cs os s counts out ps. (counts ≡ cs) × Begun (alone_of cs) ps s.at os out };
+impl Receiver for Writer<'_, '_> {
+    ghost fed = { λ start now ps. (now.counter ≡ start.counter) × (now.output.ghost_name ≡ start.output.ghost_name) × Begun (alone_of start.counter.now.counts) ps start.output.now now.output.now };
 
-    fn take(&mut self, counts: &mut [u8], out: &mut [u8], product: Product) {
-        if !has_room(out.len(), self.at, row_len(product)) {
+    ghost begins = { λ r. (refl, refl, begun_none (alone_of r.counter.now.counts) r.output.now) };
+
+    fn take(&mut self, product: Product) {
+        if self.output.room() < row_len(product) {
             return;
         }
-        let marked = is_essential(counts, product);
-        let next = put_row(out, self.at, product, marked);
-        self.at = next;
+        let marked = self.counter.is_essential(product);
+        put_row(self.output, product, marked);
     }
 }

@@ -7,18 +7,10 @@ use Rattle.diagram.proofs.Tables.{newest_node, node_more}
 use Rattle.table.specs.Model.{Absent}
 use Rattle.packed.specs.Layout.{get16, slot_start, slot, decode, chain_of, newest}
 use Rattle.packed.specs.Inner.{Laid}
+use Rattle.packed.specs.Held.{decode_length, newest_none}
 use Rattle.packed.proofs.Writes.{two_get, link_is}
 
--- The decoded nodes, by number, by handle and by one more.
-pub decode_length : (k : ℕ) (bs : List ℕ) → length (decode k bs) ≡ k
-unfolding decode
-decode_length zero bs = refl
-decode_length (suc k) bs = ap suc (decode_length k bs)
-
-pub decode_none : (bs : List ℕ) → decode 0 bs ≡ []
-unfolding decode
-decode_none bs = refl
-
+-- The decoded nodes, by handle and by one more.
 pub decode_more : (k : ℕ) (bs : List ℕ) → decode (k + 1) bs ≡ slot bs k ∷ decode k bs
 unfolding decode
 decode_more k bs = ap (λ j. decode j bs) (add-one k)
@@ -64,10 +56,6 @@ newest_own n ns c e = cond-true (eqb (chain_of n) c) (length ns + 2) (newest ns 
 pub newest_other : (n : Node) (ns : List Node) (c : ℕ) → (chain_of n ≡ c → ⊥) → newest (n ∷ ns) c ≡ newest ns c
 unfolding newest
 newest_other n ns c ne = cond-false (eqb (chain_of n) c) (length ns + 2) (newest ns c) (ne_eqb (chain_of n) c ne)
-
-pub newest_none : (c : ℕ) → newest [] c ≡ 0
-unfolding newest
-newest_none c = refl
 
 -- What the newest handle h of chain c among the first k slots says.
 pub record Newest (k : ℕ) (bs : List ℕ) (c h : ℕ) : Type 0 where

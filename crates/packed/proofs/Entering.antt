@@ -5,8 +5,9 @@ use Rattle.diagram.specs.declared.Node.{Node}
 use Rattle.packed.specs.Layout.{get16, size_of, slot_start, rest_of, slot, decode, chain_of, newest}
 use Rattle.packed.specs.Inner.{put16, Two, Slot, Wrote, Laid}
 use Rattle.packed.proofs.Writes.{two_get, two_same, length_put16, put16_other, put16_same, slot_is}
-use Rattle.packed.proofs.Chains.{decode_length, decode_more, decode_same, slot_same, newest_own, newest_other}
-use Rattle.packed.proofs.Exact.{rest_at, rest_same}
+use Rattle.packed.specs.Held.{decode_length}
+use Rattle.packed.proofs.Chains.{decode_more, decode_same, slot_same, newest_own, newest_other}
+use Rattle.packed.specs.Exact.{rest_at, rest_same}
 
 -- What the two writes leave.
 pub record Entered (held : ℕ) (bs bs₂ : List ℕ) (n : Node) : Type 0 where

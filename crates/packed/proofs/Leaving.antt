@@ -5,7 +5,7 @@ use Rattle.packed.specs.Layout.{get16, size_of, slot_start, rest_of, slot, decod
 use Rattle.packed.specs.Inner.{put16, Two, Slot, Wrote, Laid}
 use Rattle.packed.proofs.Writes.{two_same, length_put16, put16_other, put16_same, link_is}
 use Rattle.packed.proofs.Chains.{decode_more, decode_same, slot_same, newest_other}
-use Rattle.packed.proofs.Exact.{rest_at, rest_same}
+use Rattle.packed.specs.Exact.{rest_at, rest_same}
 
 -- What the two writes leave.
 pub record Left (k : ℕ) (bs bs₂ : List ℕ) : Type 0 where

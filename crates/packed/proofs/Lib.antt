@@ -1,6 +1,4 @@
-mod Props
 mod Writes
 mod Chains
-mod Exact
 mod Entering
 mod Leaving

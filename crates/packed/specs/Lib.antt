@@ -1,2 +1,5 @@
 pub mod Layout
 pub mod Inner
+pub mod Props
+pub mod Held
+pub mod Exact

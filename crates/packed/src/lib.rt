@@ -1,14 +1,16 @@
 // A node table over lent bytes: 256 chain heads, then slots of 8 bytes.
 #![tactic(auto)]
 
-ghost use Rattle.std.specs.Prelude.{◌≡◌, ℕ, ◌+◌, ◌-◌, ◌*◌, ◌/◌, ◌<◌, ◌≤◌, [], ◌∷◌, length, drop, Decides, MatchOption, slice_index};
+ghost use Rattle.std.specs.Prelude.{◌≡◌, ℕ, ◌+◌, ◌*◌, ◌<◌, ◌≤◌, [], ◌∷◌, length, drop, MatchOption, slice_index};
 ghost use Rattle.diagram.specs.Nodes.{At, Fit, WellFormed};
 ghost use Rattle.table.specs.Model.{Absent};
 ghost use Rattle.packed.specs.Layout.{get16, size_of, slot_start, rest_start, rest_of, slot, decode, chain_of, content, first_sign};
 ghost use Rattle.packed.specs.Inner.{put16, Slot, Wrote, Laid};
+ghost use Rattle.packed.specs.Held.{sound_held};
+ghost use Rattle.packed.specs.Exact.{exact};
 
-use diagram::{Node, same_node};
-use table::{NodeTable, Reason, TableFault, fits};
+use diagram::Node;
+use table::{MOST, NodeTable, Reason, TableFault, fits, handle_at, place_of};
 
 // The bytes of the chain heads.
 const HEADS: usize = 512;
@@ -16,18 +18,11 @@ const HEADS: usize = 512;
 // The bytes of a slot.
 const SLOT: usize = 8;
 
-// The most nodes that a table holds: with the two constants, their handles stay below 2^16.
-const MOST: usize = 65000;
-
 // How many slots stand behind the heads.
 fn size_of(len: usize) -> usize
     ensures { result ≡ size_of len }
 {
-    if len < HEADS + SLOT {
-        0
-    } else {
-        ((len - HEADS) / SLOT).min(MOST)
-    }
+    (len.saturating_sub(HEADS) / SLOT).min(MOST)
 }
 
 // Where the bytes begin that are never written.
@@ -44,22 +39,6 @@ fn chain_of(node: Node) -> usize
     (node.level as usize + 3 * node.low as usize + 5 * node.high as usize) % 256
 }
 
-// The slot of a handle.
-fn place_of(handle: u16) -> usize
-    requires { 2 ≤ handle }
-    ensures { result ≡ handle - 2 }
-{
-    handle as usize - 2
-}
-
-// The handle of a slot.
-fn handle_of(place: usize) -> u16
-    requires { place < 65000 }
-    ensures { result ≡ place + 2 }
-{
-    place as u16 + 2
-}
-
 // Lent bytes, apart from what the table knows of them: a method that writes leaves that open for a moment.
 #[derive(Drop)]
 struct Bytes<'a> {
@@ -67,25 +46,18 @@ struct Bytes<'a> {
 }
 
 impl<'a> Bytes<'a> {
-    fn len(&self) -> usize
-        ensures { result ≡ length self.now.buf.now }
-    {
-        self.buf.len()
-    }
-
     fn at16(&self, i: usize) -> u16
         requires { i + 1 < length self.now.buf.now }
         ensures { result ≡ get16 self.now.buf.now i }
     {
-        self.buf[i] as u16 + 256 * self.buf[i + 1] as u16
+        u16::from_le_bytes([self.buf[i], self.buf[i + 1]])
     }
 
     fn put16(&mut self, i: usize, v: u16)
         requires { i + 1 < length self.old.buf.now }
         ensures { self.new.buf.now ≡ put16 self.old.buf.now i v }
     {
-        self.buf[i] = (v % 256) as u8;
-        self.buf[i + 1] = (v / 256) as u8;
+        self.buf[i..i + 2].copy_from_slice(&v.to_le_bytes());
     }
 
     // The newest handle of a node's chain.
@@ -129,24 +101,11 @@ impl<'a> Bytes<'a> {
         ensures frame { Wrote (slot_start k) (slot_start k + 8) self.old.buf.now self.new.buf.now }
         ensures slot { Slot self.new.buf.now k node link }
     {
+        let [a, b] = node.low.to_le_bytes();
+        let [c, d] = node.high.to_le_bytes();
+        let [e, f] = link.to_le_bytes();
         let p = HEADS + SLOT * k;
-        self.buf[p] = node.level;
-        self.buf[p + 1] = 0;
-        self.put16(p + 2, node.low);
-        self.put16(p + 4, node.high);
-        self.put16(p + 6, link);
-    }
-
-    // Clears the bytes from `a` up to `b`.
-    fn clear(&mut self, a: usize, b: usize)
-        requires order { a ≤ b }
-        requires within { b ≤ length self.old.buf.now }
-        ensures frame { Wrote a b self.old.buf.now self.new.buf.now }
-        ensures cleared { (i : ℕ) → a ≤ i → i < b → slice_index self.new.buf.now i ≡ 0 }
-    {
-        for i in a..b {
-            self.buf[i] = 0;
-        }
+        self.buf[p..p + SLOT].copy_from_slice(&[node.level, 0, a, b, c, d, e, f]);
     }
 
     fn clear_slot(&mut self, k: usize)
@@ -155,10 +114,10 @@ impl<'a> Bytes<'a> {
         ensures cleared { (i : ℕ) → slot_start k ≤ i → i < slot_start k + 8 → slice_index self.new.buf.now i ≡ 0 }
     {
         let p = HEADS + SLOT * k;
-        self.clear(p, p + SLOT);
+        self.buf[p..p + SLOT].fill(0);
     }
 
-    // The handle of a node among the first `held` slots: only its chain is followed.
+    // The handle of a node among the first `held` slots: only its chain is followed, link by link, as the bytes are laid out.
     fn find(&self, held: usize, node: Node) -> Option<u16>
         requires room { slot_start held ≤ length self.now.buf.now }
         requires small { held ≤ 65000 }
@@ -167,9 +126,8 @@ impl<'a> Bytes<'a> {
     {
         let mut h = self.head(node);
         while h != 0 {
-            let k = place_of(h);
-            let x = self.node(k);
-            if same_node(x, node) {
+            let k = h as usize - 2;
+            if self.node(k) == node {
                 return Some(h);
             }
             h = self.link(k);
@@ -196,10 +154,12 @@ impl<'a> PackedTable<'a> {
         ensures rest { rest_of result.bytes.buf.now ≡ rest_of buf.old }
         ensures memory { result.bytes.buf.now ≡ content (size_of (length buf.old)) [] (rest_of buf.old) }
     {
-        let mut bytes = Bytes { buf };
-        let end = rest_at(bytes.len());
-        bytes.clear(0, end);
-        PackedTable { bytes, held: 0 }
+        let end = rest_at(buf.len());
+        buf[..end].fill(0);
+        PackedTable {
+            bytes: Bytes { buf },
+            held: 0,
+        }
     }
 
     // Gives the bytes back, with what they hold.
@@ -210,18 +170,6 @@ impl<'a> PackedTable<'a> {
         let PackedTable { bytes, held: _ } = self;
         let Bytes { buf } = bytes;
         buf
-    }
-
-    fn count(&self) -> u16
-        ensures { result ≡ self.now.held }
-    {
-        self.held as u16
-    }
-
-    fn has_room(&self) -> bool
-        ensures { Decides result (self.now.held < size_of (length self.now.bytes.buf.now)) }
-    {
-        self.held < size_of(self.bytes.len())
     }
 
     // The handle of a node; where there are no slots, there are no heads to search from.
@@ -245,7 +193,7 @@ impl<'a> PackedTable<'a> {
         ensures rest { rest_of self.new.bytes.buf.now ≡ rest_of self.old.bytes.buf.now }
     {
         let at = self.held;
-        let handle = handle_of(at);
+        let handle = handle_at(at);
         let link = self.bytes.head(node);
         self.bytes.put_slot(at, node, link);
         self.bytes.set_head(node, handle);
@@ -283,25 +231,24 @@ impl<'a> NodeTable for PackedTable<'a> {
 
     ghost content = { content };
 
+    ghost sound = { λ t. sound_held t.held t.bytes.buf.now t.room t.formed };
+
+    ghost lent = { λ t. exact t.held t.bytes.buf.now t.room t.laid };
+
     fn size(&self) -> u16 {
-        size_of(self.bytes.len()) as u16
+        size_of(self.bytes.buf.len()) as u16
     }
 
     fn len(&self) -> u16 {
-        self.count()
+        self.held as u16
     }
 
     fn get(&self, handle: u16) -> Result<Node, TableFault> {
-        if handle < 2 || handle as usize >= self.held + 2 {
-            let size = self.size();
-            return Err(TableFault {
-                reason: Reason::NotIssued,
-                size,
-            });
-        }
-        Ok(self.bytes.node(place_of(handle)))
+        let place = place_of(handle, self.held, self.size())?;
+        Ok(self.bytes.node(place))
     }
 
+    // The other table reads alike here: one text for both would need a public trait with calls that ask something first.
     fn insert(&mut self, node: Node) -> Result<u16, TableFault> {
         let size = self.size();
         let low = self.get(node.low);
@@ -315,7 +262,7 @@ impl<'a> NodeTable for PackedTable<'a> {
         if let Some(handle) = self.find(node) {
             return Ok(handle);
         }
-        if !self.has_room() {
+        if self.held >= size as usize {
             return Err(TableFault {
                 reason: Reason::Full,
                 size,
@@ -324,7 +271,7 @@ impl<'a> NodeTable for PackedTable<'a> {
         Ok(self.enter(node))
     }
 
-    // Each turn drops one node.
+    // Each turn drops one node. A count of turns would say no more: what is held tells when to stop.
     fn truncate(&mut self, count: u16) {
         while self.held > count as usize {
             self.pop();
@@ -337,5 +284,5 @@ pub fn byte_fourteen() -> u8
     ensures value { result ≡ 2 }
     ensures byte { result ≡ slice_index (content (size_of 520) (first_sign ∷ []) []) 14 }
 {
-    handle_of(0) as u8
+    handle_at(0) as u8
 }

@@ -20,7 +20,8 @@ use Rattle.implicant.proofs.Conditions.{signs_low, signs_high, signs_both}
 use Rattle.implicant.proofs.Handles.{signs_level, level_before}
 use Rattle.implicant.proofs.Halves.{primes_none, primes_at}
 use Rattle.implicant.proofs.Walked.{in_set, working_none, set_step, in_low, in_high, in_both, in_and, working_split}
-use Rattle.walk.specs.declared.ops.Op.TheVariants.{And}
+use Rattle.formula.specs.declared.steps.Operator.TheVariants.{And}
+use Rattle.walk.specs.declared.ops.Op.TheVariants.{Infix}
 use Rattle.walk.specs.declared.cache.Task.TheVariants.{Primes}
 use Rattle.walk.specs.Ops.{joined}
 use Rattle.walk.specs.Entries.{RightTask}
@@ -88,7 +89,7 @@ module _ {L n m k : ℕ} {t0 : List Node} {f f0 f1 : ℕ} (d : Divided L n m k t
   V1 = meaning t0 f1
 
   abbrev M : Fun
-  M = joined And V0 V1
+  M = joined (Infix And) V0 V1
 
   -- the working functions of f, and those of a function of the n options after the first
   abbrev Q : Fun → Type 0

@@ -2,7 +2,7 @@
 use Rattle.std.proofs.Common.{◌≡◌, ℕ, ◌+◌, ◌*◌, ◌<◌, min, List, Ok, Err, Result, refl, arith}
 use Rattle.diagram.specs.declared.Node.{Node}
 use Rattle.diagram.specs.Functions.{Fun, choice, Ignores}
-use Rattle.diagram.specs.Nodes.{Issued, meaning, level_of, Extends, Stands}
+use Rattle.diagram.specs.Nodes.{Issued, meaning, level_of, Stands}
 use Rattle.diagram.proofs.Settings.{choice_ignores}
 use Rattle.diagram.proofs.Restrictions.{Sides, joined_ignores}
 use Rattle.diagram.proofs.Tables.{ignores}
@@ -16,11 +16,6 @@ use Rattle.walk.specs.Ops.{answer, joined}
 use Rattle.walk.specs.Outcomes.{Walked}
 use Rattle.walk.proofs.Halves.{low_refused, high_refused, low_stands, high_stands, make_refused, make_gives}
 use Rattle.walk.proofs.Remembered.{joined_kept}
-
--- A walk only adds nodes, whatever it answers.
-pub walked_extends : {N l : ℕ} {f : Fun} {a b : List Node} (r : Result ℕ TableFault) → Walked N a l f r b → Extends a b
-walked_extends (Ok h) x = x.outcome.grows.extends
-walked_extends (Err e) x = x.outcome.denies.grows.extends
 
 module _ {N k : ℕ} {a : List Node} {p p0 p1 : ℕ} (s : Sound N a) (small : k < 12)
     (sp : Stands a (2 * k + 3) p (meaning a p)) (sl : Stands a (2 * k + 3) p0 (meaning a p0)) (sh : Stands a (2 * k + 3) p1 (meaning a p1)) where

@@ -1,7 +1,10 @@
 -- The bits of masks, one at a time from the top. Assumes nothing.
-use Rattle.std.proofs.Common.{◌≡◌, ℕ, zero, suc, ◌+◌, ◌*◌, ◌/◌, ◌%◌, ◌^◌, ◌<◌, ◌≤◌, min, cond, ◌&&◌, eqb, sym, ap, ◌∙◌, inl, inr, arith}
+use Rattle.std.proofs.Common.{◌≡◌, ℕ, zero, suc, ◌+◌, ◌*◌, ◌/◌, ◌%◌, ◌^◌, ◌<◌, ◌≤◌, min, false, cond, ◌&&◌, eqb, sym, ap, ◌∙◌, inl, inr, arith}
+use Rattle.std.proofs.Math.Nat.{div-eq_of_lt}
+use Rattle.std.proofs.Math.Pow.{pow_mono}
 use lib.Bits.{bit_and, and_shr, and_step}
 use Rattle.std.proofs.lemmas.Nat.{mod-pow-add, mod_below, pow_pos, div-mul-add}
+use Rattle.product.specs.Bits.{bit}
 use Rattle.std.proofs.lemmas.Bool.{cases_eq, eq-eqb, ne_eqb}
 
 -- a number's last n + 1 bits are bit n and the last n
@@ -54,3 +57,7 @@ pub cond_bit : (x w : ℕ) → x < 2 → cond (eqb x 1) w 0 ≡ x * w
 cond_bit zero w p = omega arith
 cond_bit (suc zero) w p = omega arith
 cond_bit (suc (suc x)) w p = absurd (omega arith)
+
+-- a mask of twelve bits has none past them
+pub no_bit : (m j : ℕ) → m < 4096 → 12 ≤ j → bit m j ≡ false
+no_bit m j low high = ap (λ (z : ℕ). eqb (z % 2) 1) (div-eq_of_lt (omega (arith, pow_mono high)))

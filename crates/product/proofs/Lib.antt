@@ -6,5 +6,4 @@ pub mod Inverse
 pub mod Sizes
 pub mod Meeting
 pub mod Lettering
-pub mod Putting
 pub mod Sealed

@@ -3,7 +3,7 @@ pub mod Lists
 pub mod Bits
 pub mod Masks
 pub mod Weights
-pub mod Put
 pub mod Faults
+pub mod Said
 pub mod Outcome
 pub mod Products

@@ -1,13 +1,14 @@
 ghost use Rattle.std.specs.Prelude.{◌≡◌};
 ghost use Rattle.product.specs.Faults.{fault_number, fault_place};
 
-#[derive(Clone, Copy)]
+#[derive(Clone, Copy, PartialEq, Eq, Debug)]
 pub enum ProductFault {
     NotProduct,
     ShortOutput,
 }
 
 impl ProductFault {
+    // The number by which callers in C and price lists know the fault.
     pub fn number(self) -> u8
         ensures { result ≡ fault_number self }
     {

@@ -1,1 +1,2 @@
+pub mod Begun
 pub mod Prefixes

@@ -1,7 +1,8 @@
-// Walks over product sets that enter no node: inner code, whose functions have `requires`; only the engine above calls them.
+// Walks over product sets that enter no node: inner code, whose functions have `requires`; only the inner crates and the engine above call them.
 #![tactic(auto)]
 
 mod handing;
+mod prefix;
 mod receiver;
 mod sets;
 

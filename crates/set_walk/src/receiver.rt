@@ -1,16 +1,18 @@
-ghost use Rattle.std.specs.Prelude.{◌≡◌, ℕ, List, [], ◌∷◌, ◌++◌, length};
+ghost use Rattle.std.specs.Prelude.{◌≡◌, ℕ, List, [], ◌∷◌, ◌++◌};
 ghost use Rattle.product.specs.Words.{Words};
 ghost use Rattle.product.specs.Products.{words_of};
 
 use product::Product;
 
-// What products are handed to, one by one. A count for each version and an output are lent to each call.
+// What products are handed to, one by one. It is a trait and no closure: a clause on a closure would be a chain of its steps,
+// of which a caller would have to unfold what happened to what it captured. The relation `fed` says it at once.
 pub trait Receiver {
-    // fed cs os r counts out ps: begun with the counts cs and the output os, it has taken the products ps,
-    // and what was lent holds counts and out now.
-    ghost fed: { List ℕ → List ℕ → Self → List ℕ → List ℕ → List (Words 12) → Type 0 };
+    // fed start now ps: begun as `start`, it has taken the products ps, one after the other, and is `now`.
+    ghost fed: { Self → Self → List (Words 12) → Type 0 };
 
-    fn take(&mut self, counts: &mut [u8], out: &mut [u8], product: Product)
-        requires { length counts.old ≡ 4096 }
-        ensures { (cs os : List ℕ) (ps : List (Words 12)) → fed cs os self.old counts.old out.old ps → fed cs os self.new counts.new out.new (ps ++ (words_of product ∷ [])) };
+    fn take(&mut self, product: Product)
+        ensures { (start : Self) (ps : List (Words 12)) → fed start self.old ps → fed start self.new (ps ++ (words_of product ∷ [])) };
+
+    // Before any product it is as it began.
+    ghost begins: { (r : Self) → fed r r [] };
 }

@@ -1,5 +1,3 @@
 mod Children
-pub mod Props
 mod Runs
 pub mod Outcomes
-mod PairSteps

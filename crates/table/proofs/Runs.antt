@@ -2,15 +2,16 @@
 use Rattle.std.proofs.Common.{◌≡◌, ℕ, ◌+◌, ◌-◌, ◌<◌, ◌≤◌, min, List, [], ◌∷◌, ◌++◌, reverse, length, get_or, take, drop, set, replicate, Ok, Err, sym, refl, ap, ◌∙◌, inl, inr, append_assoc, arith}
 use mathlib.Core.List.{reverse-cons}
 use Rattle.std.proofs.lemmas.Bool.Decides.{eqb_tells}
-use Rattle.std.proofs.lemmas.Bool.{cases_lt}
 use Rattle.std.proofs.lemmas.List.{reverse-append, reverse-reverse, length-reverse, length-append, length-replicate, length-drop, length-take-le, length-set, take-append-drop, take_at, take-take, take_more_set, drop_at, drop-drop, drop-set-lt, drop-append-le, drop-replicate, replicate-append-replicate, get_or_at, get_or_append_left, get_or-take}
+use borrow.Rule.Slice.PartMut.{put_mid}
 use Rattle.diagram.specs.declared.Node.{Node}
 use Rattle.diagram.specs.Nodes.{Issued, node_at, At, Fit, WellFormed}
 use Rattle.diagram.proofs.Growth.{well_formed_kept}
 use Rattle.table.specs.declared.faults.Reason.TheVariants.{Full}
 use Rattle.table.specs.Faults.{fault}
-use Rattle.table.specs.Model.{Absent, Inserted, Sound, oldest}
-use Rattle.table.specs.Plain.{Cleared, blank, zeros, plain_size, plain_nodes, plain_rest, plain_content}
+use Rattle.table.specs.Model.{Absent, Inserted, oldest}
+use Rattle.table.specs.Held.{held_length}
+use Rattle.table.specs.Plain.{Cleared, blank, zeros, plain_size, plain_nodes, plain_rest}
 
 node_read : (ns : List Node) (h : ℕ) → 2 ≤ h → Issued ns h → node_at ns h ≡ get_or (reverse ns) (h - 2) blank
 unfolding node_at
@@ -26,34 +27,22 @@ node_read (n ∷ ns) h p q =
     ]
 
 module _ (run : List Node) (held : ℕ) (room : held ≤ plain_size run) where
-  pub held_length : length (plain_nodes held run) ≡ held
-  held_length = length-reverse (take held run) ∙ length-take-le held run (omega arith)
-
   read_held : (h : ℕ) → 2 ≤ h → h < held + 2 → node_at (plain_nodes held run) h ≡ get_or run (h - 2) blank
   read_held h p q =
-      let l = held_length in
+      let l = held_length run held room in
       let k : h - 2 < held = omega arith in
       node_read (plain_nodes held run) h p (omega arith)
       ∙ ap (λ os. get_or os (h - 2) blank) (reverse-reverse (take held run))
       ∙ get_or-take held run (h - 2) blank k
 
   pub at_held : (h : ℕ) (n : Node) → 2 ≤ h → h < held + 2 → get_or run (h - 2) blank ≡ n → At (plain_nodes held run) h n
-  at_held h n p q e = let l = held_length in record { issued = omega arith; two = p; is = read_held h p q ∙ e }
+  at_held h n p q e = let l = held_length run held room in record { issued = omega arith; two = p; is = read_held h p q ∙ e }
 
   pub absent_held : (n : Node) → ((k : ℕ) → k < held → get_or run k blank ≡ n → ⊥) → Absent (plain_nodes held run) n
   absent_held n p h a =
-      let l = held_length in
+      let l = held_length run held room in
       let i : h < held + 2 = omega (arith, a.issued) in
       p (h - 2) (omega (arith, a.two)) (sym (read_held h a.two i) ∙ a.is)
-
-  pub memory_held : Cleared held run → run ≡ plain_content (plain_size run) (plain_nodes held run) (plain_rest run)
-  memory_held c =
-      sym (take-append-drop held run)
-      ∙ ap (λ x. take held run ++ x) (c ∙ ap (λ k. zeros (plain_size run) k (plain_rest run)) (sym held_length))
-      ∙ ap (λ x. x ++ zeros (plain_size run) (length (plain_nodes held run)) (plain_rest run)) (sym (reverse-reverse (take held run)))
-
-  pub sound_held : WellFormed (plain_nodes held run) → Sound (plain_size run) (plain_nodes held run)
-  sound_held w = let l = held_length in record { small = omega arith; room = omega arith; formed = w }
 
   -- Outcomes that leave the run as it is, and that of entering.
   pub found_held : (n : Node) (i h : ℕ) → Fit (plain_nodes held run) n → i < held → get_or run i blank ≡ n → h ≡ i + 2 → Inserted (plain_size run) (plain_nodes held run) n (Ok h) (plain_nodes held run)
@@ -62,14 +51,13 @@ module _ (run : List Node) (held : ℕ) (room : held ≤ plain_size run) where
       let a = at_held h n (omega arith) (omega arith) (ap (λ k. get_or run k blank) z ∙ e) in
       record { outcome = (f, inl (record { at = a; kept = refl })) }
 
-  pub full_held : (n : Node) (s : ℕ) → Fit (plain_nodes held run) n → Absent (plain_nodes held run) n → ¬ (held < plain_size run) → s ≡ plain_size run → Inserted (plain_size run) (plain_nodes held run) n (Err (fault Full s)) (plain_nodes held run)
-  full_held n s f a ne e =
-      let l = held_length in
-      let m : plain_size run ≤ held = elim (cases_lt held (plain_size run)) [ inl x ↦ absurd (ne x) | inr x ↦ x ] in
+  pub full_held : (n : Node) (s : ℕ) → Fit (plain_nodes held run) n → Absent (plain_nodes held run) n → plain_size run ≤ held → s ≡ plain_size run → Inserted (plain_size run) (plain_nodes held run) n (Err (fault Full s)) (plain_nodes held run)
+  full_held n s f a no_room e =
+      let l = held_length run held room in
       record { outcome = inr (record { fit = f; absent = a; full = omega arith; is = ap (fault Full) e; kept = refl }) }
 
   pub entered_held : (n : Node) (h : ℕ) (new : List Node) → Fit (plain_nodes held run) n → Absent (plain_nodes held run) n → held < plain_size run → h ≡ held + 2 → new ≡ n ∷ plain_nodes held run → Inserted (plain_size run) (plain_nodes held run) n (Ok h) new
-  entered_held n h new f a less e x = let l = held_length in record { outcome = (f, inr (record { absent = a; room = omega arith; handle = omega arith; added = x })) }
+  entered_held n h new f a less e x = let l = held_length run held room in record { outcome = (f, inr (record { absent = a; room = omega arith; handle = omega arith; added = x })) }
 
 -- After a node was entered.
 module _ (run : List Node) (held : ℕ) (n : Node) (run' : List Node) (less : held < plain_size run) (put : run' ≡ set run held n) where
@@ -94,6 +82,20 @@ module _ (run : List Node) (held : ℕ) (n : Node) (run' : List Node) (less : he
       ∙ drop-append-le 1 (replicate (size - held) blank) (plain_rest run) l
       ∙ ap (λ x. x ++ plain_rest run) (drop-replicate 1 (size - held) blank ∙ ap (λ m. replicate m blank) (omega arith))
       ∙ sym (ap (λ s. zeros s (held + 1) (plain_rest run')) size_entered ∙ ap (zeros size (held + 1)) rest_entered)
+
+-- A part of a run, filled with the default record.
+blanks : (b : Node) (part : List Node) (k n : ℕ) → (b.level ≡ 0) × ((b.low ≡ 0) × (b.high ≡ 0)) → part ≡ replicate k b → k ≡ n → part ≡ replicate n blank
+blanks b part k n e f l =
+    let is : b ≡ blank = λ i. record { level = e.0 i; low = e.1.0 i; high = e.1.1 i } in
+    f ∙ ap (λ m. replicate m b) l ∙ ap (replicate n) is
+
+pub filled : (run : List Node) (m held : ℕ) (b : Node) (part : List Node) → m ≤ held → held ≤ length run → (b.level ≡ 0) × ((b.low ≡ 0) × (b.high ≡ 0)) → part ≡ replicate (length (take (held - m) (drop m run))) b → put_mid m (held - m) run part ≡ take m run ++ zeros held m (drop held run)
+filled run m held b part p q e f =
+    let d = length-drop m run in
+    let l = length-take-le (held - m) (drop m run) (omega arith) in
+    let s : m + (held - m) ≡ held = omega arith in
+    ap (λ x. take m run ++ (x ++ drop (held - m) (drop m run))) (blanks b part _ (held - m) e f l)
+    ∙ ap (λ x. take m run ++ (replicate (held - m) blank ++ x)) (drop-drop (held - m) m run ∙ ap (λ k. drop k run) s)
 
 -- After the nodes past m were taken back.
 module _ (run : List Node) (m held : ℕ) (run' : List Node) (room : held ≤ plain_size run) (less : m ≤ held) (zeroed : run' ≡ take m run ++ zeros held m (drop held run)) where
@@ -151,14 +153,3 @@ module _ (run : List Node) (m held : ℕ) (run' : List Node) (room : held ≤ pl
       let b = length-drop m (take held run) in
       let d = length-take-le held run (omega arith) in
       sym (ap (drop (length ns - m)) before ∙ drop_at (reverse (drop m (take held run))) (plain_nodes m run') (length ns - m) (omega arith))
-
--- All nodes are left where there are no more than m.
-pub oldest_all : (ns : List Node) (m : ℕ) → length ns ≤ m → oldest m ns ≡ ns
-oldest_all ns m h = let e : length ns - m ≡ 0 = omega arith in ap (λ k. drop k ns) e
-
--- Nothing of the rest belongs to the table.
-pub cleared_full : (run : List Node) (s : ℕ) → s ≡ plain_size run → Cleared s run
-cleared_full run s e =
-    let size = plain_size run in
-    let z : 0 ≡ size - s = omega arith in
-    ap (λ k. drop k run) e ∙ ap (λ k. replicate k blank ++ plain_rest run) z

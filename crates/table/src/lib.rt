@@ -4,6 +4,7 @@
 mod decided;
 mod faults;
 mod fitting;
+mod handles;
 mod node_table;
 mod pair;
 mod plain;
@@ -12,6 +13,7 @@ pub use decided::outcomes_are_decided;
 pub use diagram::Node;
 pub use faults::{Reason, TableFault};
 pub use fitting::fits;
+pub use handles::{MOST, handle_at, place_of};
 pub use node_table::NodeTable;
 pub use pair::{PairFault, insert_pair};
 pub use plain::PlainTable;

@@ -1,6 +1,7 @@
 ghost use Rattle.std.specs.Prelude.{◌≡◌, ℕ, List, length};
 ghost use Rattle.diagram.specs.declared.Node.{Node};
 ghost use Rattle.table.specs.Model.{Sound, Got, Inserted, oldest};
+ghost use Rattle.table.specs.Room.{SameRoom};
 
 use crate::faults::TableFault;
 use diagram::Node;
@@ -30,24 +31,23 @@ pub trait NodeTable {
     fn size(&self) -> u16
         ensures value { result ≡ limit self.now };
 
-    // Also tells what holds of every table.
     fn len(&self) -> u16
-        ensures value { result ≡ length (nodes self.now) }
-        ensures sound { Sound (limit self.now) (nodes self.now) }
-        ensures memory { memory self.now ≡ content (limit self.now) (nodes self.now) (rest self.now) };
+        ensures value { result ≡ length (nodes self.now) };
 
     fn get(&self, handle: u16) -> Result<Node, TableFault>
         ensures { Got (limit self.now) (nodes self.now) handle result };
 
     fn insert(&mut self, node: Node) -> Result<u16, TableFault>
         ensures inserted { Inserted (limit self.old) (nodes self.old) node result (nodes self.new) }
-        ensures size { limit self.new ≡ limit self.old }
-        ensures rest { rest self.new ≡ rest self.old }
-        ensures memory { memory self.new ≡ content (limit self.new) (nodes self.new) (rest self.new) };
+        ensures room { SameRoom limit rest self.old self.new };
 
     fn truncate(&mut self, count: u16)
         ensures nodes { nodes self.new ≡ oldest count (nodes self.old) }
-        ensures size { limit self.new ≡ limit self.old }
-        ensures rest { rest self.new ≡ rest self.old }
-        ensures memory { memory self.new ≡ content (limit self.new) (nodes self.new) (rest self.new) };
+        ensures room { SameRoom limit rest self.old self.new };
+
+    // A table's nodes are well formed, and within its size.
+    ghost sound: { (t : Self) → Sound (limit t) (nodes t) };
+
+    // What the lent memory holds.
+    ghost lent: { (t : Self) → memory t ≡ content (limit t) (nodes t) (rest t) };
 }

@@ -1,13 +1,14 @@
 ghost use Rattle.std.specs.Prelude.{◌≡◌, OnErr};
 ghost use Rattle.table.specs.Pairs.{Paired};
+ghost use Rattle.table.specs.Room.{SameRoom};
 ghost use Rattle.table.specs.declared.pair.PairFault.TheVariants.{Table};
 
 use crate::faults::TableFault;
 use crate::node_table::NodeTable;
 use diagram::Node;
 
-// Why a pair was refused: the table's fault, whole.
-#[derive(Clone, Copy)]
+// Why a pair was refused: the table's fault, whole. One case: that `From` and `?` carry a fault is a form that the code is to have (docs/DECISIONS.md).
+#[derive(Clone, Copy, PartialEq, Eq, Debug)]
 pub enum PairFault {
     Table(TableFault),
 }
@@ -23,18 +24,14 @@ impl From<TableFault> for PairFault {
 // Inserts `a` and then `b`, or neither; the handle is that of `b`.
 pub fn insert_pair<T: NodeTable>(table: &mut T, a: Node, b: Node) -> Result<u16, PairFault>
     ensures paired { Paired (T.limit table.old) (T.nodes table.old) a b result (T.nodes table.new) }
-    ensures size { T.limit table.new ≡ T.limit table.old }
-    ensures rest { T.rest table.new ≡ T.rest table.old }
-    ensures memory { T.memory table.new ≡ T.content (T.limit table.new) (T.nodes table.new) (T.rest table.new) }
+    ensures room { SameRoom T.limit T.rest table.old table.new }
     ensures refused { OnErr result (T.memory table.new ≡ T.memory table.old) }
 {
     let held = table.len();
     table.insert(a)?;
-    match table.insert(b) {
-        Ok(h) => Ok(h),
-        Err(e) => {
-            table.truncate(held);
-            Err(PairFault::from(e))
-        }
+    let second = table.insert(b);
+    if second.is_err() {
+        table.truncate(held);
     }
+    Ok(second?)
 }

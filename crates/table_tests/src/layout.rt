@@ -16,14 +16,14 @@ fn byte_fourteen(rt: HostRuntime) {
         let mut table = PackedTable::new(&mut bytes);
         assert!(rt; table.insert(OPTION_A).is_ok());
     }
-    for i in 0..520 {
+    for (i, byte) in bytes.iter().enumerate() {
         let expected = match i {
             14 => 2,
             512 => 2,
             516 => 1,
             _ => 0,
         };
-        assert_eq!(rt; bytes[i], expected);
+        assert_eq!(rt; *byte, expected);
     }
 }
 
@@ -59,8 +59,8 @@ fn bytes_past_the_slots(rt: HostRuntime) {
         assert!(rt; table.insert(OPTION_A).is_ok());
         table.truncate(0);
     }
-    for i in 0..527 {
-        assert_eq!(rt; bytes[i], if i < 520 { 0 } else { 170 });
+    for (i, byte) in bytes.iter().enumerate() {
+        assert_eq!(rt; *byte, if i < 520 { 0 } else { 170 });
     }
 }
 
@@ -72,8 +72,8 @@ fn too_few_bytes(rt: HostRuntime) {
         assert!(rt; table.insert(OPTION_A).is_err());
         table.truncate(0);
     }
-    for i in 0..519 {
-        assert_eq!(rt; bytes[i], 170);
+    for byte in bytes {
+        assert_eq!(rt; byte, 170);
     }
 }
 
@@ -98,9 +98,5 @@ fn records_not_held(rt: HostRuntime) {
         );
         table.truncate(1);
     }
-    assert_eq!(rt; run[0].level, 2);
-    assert_eq!(rt; run[0].high, 1);
-    assert_eq!(rt; run[1].level, 0);
-    assert_eq!(rt; run[1].high, 0);
-    assert_eq!(rt; run[2].level, 0);
+    assert_eq!(rt; run, [OPTION_A, Node::default(), Node::default()]);
 }

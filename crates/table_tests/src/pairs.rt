@@ -21,23 +21,20 @@ const ILL_FORMED: Node = Node {
     high: 1,
 };
 
-// Over a table of one node: the number of the fault that each pair is refused with, or 0, and how many nodes are held then.
-const PAIRS: [(Node, Node, u8, u16); 5] = [
-    (A, B, 14, 0),
-    (ILL_FORMED, A, 13, 0),
-    (A, ILL_FORMED, 13, 0),
-    (A, A, 0, 1),
-    (A, B, 14, 1),
+// Over a table of one node: the handle that each pair is granted, or the number that refuses it, and how many nodes are held then.
+const PAIRS: [(Node, Node, Result<u16, u8>, u16); 5] = [
+    (A, B, Err(14), 0),
+    (ILL_FORMED, A, Err(13), 0),
+    (A, ILL_FORMED, Err(13), 0),
+    (A, A, Ok(2), 1),
+    (A, B, Err(14), 1),
 ];
 
 fn follow<T: NodeTable>(rt: &impl Abort, table: &mut T) {
-    for row in PAIRS {
-        let number = match insert_pair(table, row.0, row.1) {
-            Ok(_) => 0,
-            Err(PairFault::Table(e)) => e.number(),
-        };
-        assert_eq!(rt; number, row.2);
-        assert_eq!(rt; table.len(), row.3);
+    for (a, b, expected, held) in PAIRS {
+        let answer = insert_pair(table, a, b).map_err(|PairFault::Table(e)| e.number());
+        assert_eq!(rt; answer, expected);
+        assert_eq!(rt; table.len(), held);
     }
 }
 

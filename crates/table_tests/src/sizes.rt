@@ -2,38 +2,33 @@
 use packed::PackedTable;
 use std::process::Abort;
 use std::test::Fail;
-use table::{Node, NodeTable, PlainTable};
+use table::{Node, NodeTable, PlainTable, TableFault};
 
-// Enters nodes of falling level, each above the last, until the table is full.
-fn filled<T: NodeTable>(table: &mut T) -> u16 {
+// Enters nodes of falling level, each above the last, and tells how many are held.
+fn filled<T: NodeTable>(table: &mut T) -> Result<u16, TableFault> {
     let mut low = 0;
     for level in (1..25u8).rev() {
-        match table.insert(Node {
+        low = table.insert(Node {
             level,
             low,
             high: 1,
-        }) {
-            Ok(h) => low = h,
-            Err(e) => return e.size,
-        }
+        })?;
     }
-    table.len()
+    Ok(table.len())
 }
 
+// A table of fewer than 24 nodes is full before all are entered, and tells its size.
 fn check_size<T: NodeTable>(rt: &impl Abort, table: &mut T, size: u16) {
     assert_eq!(rt; table.size(), size);
     assert_eq!(rt; table.len(), 0);
-    assert_eq!(rt; filled(table), size.min(24));
+    let expected = if size < 24 { Err(size) } else { Ok(24) };
+    assert_eq!(rt; filled(table).map_err(|e| e.size), expected);
     assert_eq!(rt; table.len(), size.min(24));
 }
 
 #[test]
 fn plain_sizes(rt: HostRuntime) -> Result<(), Fail> {
-    let blank = Node {
-        level: 0,
-        low: 0,
-        high: 0,
-    };
+    let blank = Node::default();
     for size in [0u16, 1, 2, 24, 65000] {
         let mut run = vec![in rt.alloc(); blank; size as usize]?;
         check_size(&rt, &mut PlainTable::new(run.as_mut_slice()), size);
@@ -60,9 +55,9 @@ const PACKED: [(usize, u16); 12] = [
 
 #[test]
 fn packed_sizes(rt: HostRuntime) -> Result<(), Fail> {
-    for row in PACKED {
-        let mut bytes = vec![in rt.alloc(); 170u8; row.0]?;
-        check_size(&rt, &mut PackedTable::new(bytes.as_mut_slice()), row.1);
+    for (len, size) in PACKED {
+        let mut bytes = vec![in rt.alloc(); 170u8; len]?;
+        check_size(&rt, &mut PackedTable::new(bytes.as_mut_slice()), size);
     }
     Ok(())
 }

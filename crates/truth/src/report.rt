@@ -20,14 +20,9 @@ const TABLE_BYTES: usize = 65536;
 fn without_line_feed(text: &[u8]) -> &[u8]
     ensures { result.now ≡ unended text.now }
 {
-    if text.is_empty() {
-        return text;
-    }
-    let last = text.len() - 1;
-    if text[last] == b'\n' {
-        &text[0..last]
-    } else {
-        text
+    match text.split_last() {
+        Some((b'\n', front)) => front,
+        _ => text,
     }
 }
 
@@ -55,19 +50,10 @@ fn graph_line(heap: Global, handle: u16, nodes: u16) -> Result<String, AllocErro
     format!(in heap; "graph: handle {handle}, {nodes} nodes of 8128\n")
 }
 
-fn append(out: &mut Vec<u8>, bytes: &[u8]) -> Result<(), AllocError>
-    ensures { OnOk result (out.new.items ≡ out.old.items ++ bytes.now) }
-{
-    out.extend_from_slice(bytes)
-}
-
 fn character(step: Step) -> u8
     ensures { Marks step result }
 {
-    match step.symbol() {
-        Some(b) => b,
-        None => b'?',
-    }
+    step.symbol().unwrap_or(b'?')
 }
 
 fn append_symbols(out: &mut Vec<u8>, steps: &[Step]) -> Result<(), AllocError>
@@ -75,7 +61,7 @@ fn append_symbols(out: &mut Vec<u8>, steps: &[Step]) -> Result<(), AllocError>
     ensures { OnOk result (Appended steps.now out.old.items out.new.items) }
 {
     for step in steps {
-        append(out, &[b' ', character(*step)])?;
+        out.extend_from_slice(&[b' ', character(*step)])?;
     }
     Ok(())
 }
@@ -89,20 +75,10 @@ fn counted(heap: Global, bytes: usize, f: &Formula) -> Result<Vec<u8>, AllocErro
     let first = read_line(heap, bytes, steps.len())?;
     let last = yes_line(heap, f.count_yes())?;
     let mut out = Vec::new(heap);
-    append(&mut out, first.as_bytes())?;
+    out.extend_from_slice(first.as_bytes())?;
     append_symbols(&mut out, steps)?;
-    append(&mut out, last.as_bytes())?;
+    out.extend_from_slice(last.as_bytes())?;
     Ok(out)
-}
-
-// Reads a text that is a formula.
-fn parsed(text: &[u8]) -> Formula
-    requires { Formed text.now }
-    ensures { Read text.now result }
-{
-    let mut f = Formula::new();
-    let _ = f.read(text);
-    f
 }
 
 // The three lines for a formula.
@@ -110,10 +86,10 @@ fn granted(heap: Global, text: &[u8], handle: u16, nodes: u16) -> Result<Vec<u8>
     requires { Formed text.now }
     ensures { IfOk result (λ out. Counted text.now handle nodes out.items) }
 {
-    let f = parsed(text);
+    let f = Formula::try_from(text).unwrap();
     let mut out = counted(heap, text.len(), &f)?;
     let last = graph_line(heap, handle, nodes)?;
-    append(&mut out, last.as_bytes())?;
+    out.extend_from_slice(last.as_bytes())?;
     Ok(out)
 }
 

@@ -2,14 +2,14 @@
 use Rattle.std.proofs.Common.{◌≡◌, ℕ, ◌+◌, ◌<◌, ◌≤◌, List, [], ◌∷◌, Ok, Err, Result, sym, refl, ap, ◌∙◌, subst, inl, inr, arith}
 use Rattle.std.proofs.lemmas.Bool.{cases_lt}
 use Rattle.diagram.specs.declared.Node.{Node}
-use Rattle.diagram.specs.Functions.{choice}
-use Rattle.diagram.specs.Nodes.{Issued, meaning, level_of, At, Fit, WellFormed, Split, Stands}
+use Rattle.diagram.specs.Functions.{Fun, choice}
+use Rattle.diagram.specs.Nodes.{Issued, meaning, level_of, At, Fit, WellFormed, Extends, Split, Stands}
 use Rattle.diagram.proofs.Settings.{choice_same}
 use Rattle.diagram.proofs.Tables.{node_function, level_constant, level_at, level_most, split_at, split_none, newest_node}
 use Rattle.diagram.proofs.Growth.{extends_self}
 use Rattle.diagram.proofs.Account.{gives_held, entered_gives, absent_denies}
 use Rattle.table.specs.declared.faults.TableFault.{TableFault}
-use Rattle.table.specs.Model.{Sound, Got, Found, Entered, Inserted}
+use Rattle.table.specs.Model.{Got, Found, Entered, Inserted}
 use Rattle.walk.specs.Outcomes.{Walked}
 
 -- An issued handle without a node is a constant.
@@ -25,6 +25,11 @@ split_deeper {ns = ns} {l = l} {h = h} {n = n} p q x e = split_none ns l h p (om
 
 pub split_constant : {N : ℕ} {ns : List Node} {l h : ℕ} {e : TableFault} → Issued ns h → l < 25 → Got N ns h (Err e) → Split ns l h h h
 split_constant {ns = ns} {l = l} {h = h} p q x = split_none ns l h p (omega (arith, level_constant ns h (gotten_none p x)))
+
+-- A walk keeps the nodes that were there, granted or refused.
+pub walked_extends : {N l : ℕ} {f : Fun} {a b : List Node} (r : Result ℕ TableFault) → Walked N a l f r b → Extends a b
+walked_extends (Ok h) x = x.outcome.grows.extends
+walked_extends (Err e) x = x.outcome.denies.grows.extends
 
 -- A node that both sides make needless.
 pub same_walked : {N : ℕ} {ns : List Node} {l low high : ℕ} → WellFormed ns → Stands ns (l + 1) low (meaning ns low) → low ≡ high
@@ -46,25 +51,23 @@ sides_fit {ns = ns} {l = l} {low = low} w first x y differ = record {
   high_deeper = omega (arith, y.level);
 }
 
--- Inserting a node that fits: the table stays sound, and the outcome is that of a walk for the node's function.
-module _ {N : ℕ} {ns : List Node} {n : Node} (s : Sound N ns) (f : Fit ns n) where
+-- Inserting a node that fits has the outcome of a walk for the node's function.
+module _ (N : ℕ) {ns : List Node} {n : Node} (w : WellFormed ns) (f : Fit ns n) where
   abbrev After : Result ℕ TableFault → List Node → Type 0
-  After r new = Sound N new × Walked N ns n.level (node_function ns n) r new
+  After r new = Walked N ns n.level (node_function ns n) r new
 
   found : {h : ℕ} {new : List Node} → Found ns n h new → After (Ok h) new
-  found {h} x = subst (After (Ok h)) (sym x.kept) (s, record { outcome = entered_gives ns ns h n s.formed f (extends_self ns) x.at (λ k p q. absurd (omega arith)) })
+  found {h} x = subst (After (Ok h)) (sym x.kept) (record { outcome = entered_gives ns ns h n w f (extends_self ns) x.at (λ k p q. absurd (omega arith)) })
 
   entered : {h : ℕ} {new : List Node} → Entered N ns n h new → After (Ok h) new
   entered {h} x =
-      let w : WellFormed (n ∷ ns) = (f, x.absent, s.formed) in
       let a : At (n ∷ ns) h n = record { issued = omega (arith, x.handle); two = omega (arith, x.handle); is = newest_node n ns h x.handle } in
-      let sound : Sound N (n ∷ ns) = record { small = s.small; room = omega (arith, x.room); formed = w } in
-      subst (After (Ok h)) (sym x.added) (sound, record { outcome = entered_gives ns (n ∷ ns) h n w f (n ∷ [], refl) a (λ k p q. omega (arith, x.handle)) })
+      subst (After (Ok h)) (sym x.added) (record { outcome = entered_gives ns (n ∷ ns) h n (f, x.absent, w) f (n ∷ [], refl) a (λ k p q. omega (arith, x.handle)) })
 
-  pub inserted : (r : Result ℕ TableFault) (new : List Node) → Inserted N ns n r new → After r new
+  pub inserted : (r : Result ℕ TableFault) (new : List Node) → Inserted N ns n r new → Walked N ns n.level (node_function ns n) r new
   inserted (Ok h) new x = elim x.outcome.1 [ inl y ↦ found y | inr y ↦ entered y ]
   inserted (Err e) new x =
       elim x.outcome [
         | inl y ↦ absurd (y.unfit f)
-        | inr y ↦ subst (After (Err e)) (sym y.kept) (s, record { outcome = record { is = y.is; denies = absent_denies N ns n s.formed f y.full y.absent } })
+        | inr y ↦ subst (After (Err e)) (sym y.kept) (record { outcome = record { is = y.is; denies = absent_denies N ns n w f y.full y.absent } })
       ]

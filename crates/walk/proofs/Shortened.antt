@@ -2,14 +2,16 @@
 use Rattle.std.proofs.Common.{◌≡◌, ℕ, ◌<◌, ◌≤◌, Bool, true, false, cond, not, eqb, List, Some, None, Option, sym, refl, ap, ◌∙◌, arith}
 use mathlib.Core.Path.{fun_ext}
 use mir.Val.{bool_byte}
+use Rattle.std.specs.Bool.{beq, then_some}
 use Rattle.std.proofs.lemmas.Bool.{true≢false}
 use Rattle.std.proofs.lemmas.Bool.Decides.{nat_tests}
 use Rattle.diagram.specs.declared.Node.{Node}
 use Rattle.diagram.specs.Functions.{Fun}
 use Rattle.diagram.specs.Nodes.{meaning, Stands}
 use Rattle.diagram.proofs.Tables.{level_constant, meaning_constant, level_most}
+use Rattle.formula.specs.declared.steps.Operator.TheVariants.{And, Or, Xor, Implies, Iff}
 use Rattle.walk.specs.declared.ops.Op.{Op}
-use Rattle.walk.specs.declared.ops.Op.TheVariants.{And, Or, Xor, Implies, Iff, AndNot}
+use Rattle.walk.specs.declared.ops.Op.TheVariants.{Infix, AndNot}
 use Rattle.walk.specs.Ops.{answer}
 use Rattle.walk.specs.Shortcuts.{Simple, Short}
 
@@ -39,14 +41,14 @@ simple_constant a b h e = record {
   };
 }
 
-pub simple_own : (a b : Bool) (h : ℕ) → a ≡ false → b ≡ true → Simple a b h (Some h)
-simple_own a b h p q = record {
-  outcome = λ ns w i. record {
-    issued = i;
-    level = omega arith;
-    value = fun_ext (λ s. own_ways (meaning ns h s) ∙ ap (λ z. cond (meaning ns h s) z false) (sym q) ∙ ap (λ z. cond (meaning ns h s) b z) (sym p));
-  };
-}
+simple_own : (h : ℕ) → Simple false true h (Some h)
+simple_own h = record { outcome = λ ns w i. record { issued = i; level = omega arith; value = fun_ext (λ s. own_ways (meaning ns h s)) } }
+
+pub simple_rest : (a b : Bool) (h : ℕ) → beq a b ≡ false → Simple a b h (then_some b h)
+simple_rest true true h ne = absurd (true≢false ne)
+simple_rest true false h ne = record { outcome = (refl, refl) }
+simple_rest false true h ne = simple_own h
+simple_rest false false h ne = absurd (true≢false ne)
 
 -- A function of one answer, by its two values.
 ways : (F : Bool → Bool) (x a b : Bool) → a ≡ F false → b ≡ F true → cond x b a ≡ F x
@@ -66,11 +68,11 @@ stands_as x p e = record { issued = x.issued; level = omega (arith, x.level); va
 
 -- No operator here makes the complement of equal operands.
 agrees : (op : Op) → answer op false false ≡ true → answer op true true ≡ false → ⊥
-agrees And p q = true≢false (sym p)
-agrees Or p q = true≢false q
-agrees Xor p q = true≢false (sym p)
-agrees Implies p q = true≢false q
-agrees Iff p q = true≢false q
+agrees (Infix And) p q = true≢false (sym p)
+agrees (Infix Or) p q = true≢false q
+agrees (Infix Xor) p q = true≢false (sym p)
+agrees (Infix Implies) p q = true≢false q
+agrees (Infix Iff) p q = true≢false q
 agrees AndNot p q = true≢false (sym p)
 
 pub short_equal : (op : Op) (f g : ℕ) (a b : Bool) (r : Option ℕ) → f ≡ g → a ≡ answer op false false → b ≡ answer op true true → Simple a b f r → Short op f g r

@@ -1,16 +1,12 @@
 -- What the operators answer, and the functions that the walks make of those of their operands.
-use Rattle.std.specs.Prelude.{ℕ, Bool, not, ◌&&◌, ◌||◌}
-use Rattle.std.specs.Bool.{beq}
+use Rattle.std.specs.Prelude.{ℕ, Bool, not, ◌&&◌}
 use Rattle.diagram.specs.Functions.{Fun, put}
+use Rattle.formula.specs.Meaning.{combine}
 use Rattle.walk.specs.declared.ops.Op.{Op}
-use Rattle.walk.specs.declared.ops.Op.TheVariants.{And, Or, Xor, Implies, Iff, AndNot}
+use Rattle.walk.specs.declared.ops.Op.TheVariants.{Infix, AndNot}
 
 abbrev pub answer : Op → Bool → Bool → Bool
-answer And a b = a && b
-answer Or a b = a || b
-answer Xor a b = not (beq a b)
-answer Implies a b = not a || b
-answer Iff a b = beq a b
+answer (Infix operator) a b = combine operator a b
 answer AndNot a b = a && not b
 
 -- Two functions joined, answer by answer.

@@ -1,12 +1,13 @@
-ghost use Rattle.std.specs.Prelude.{◌≡◌, ℕ, ◌<◌, ◌⊎◌, IfSome, Decides};
+ghost use Rattle.std.specs.Prelude.{◌≡◌, ℕ, ◌<◌, ◌⊎◌, IfSome};
 ghost use Rattle.walk.specs.declared.cache.Entry.{Entry};
 ghost use Rattle.walk.specs.Places.{told, Keeps};
 
 use crate::ops::Op;
+use std::hash::{FoldHasher, Hash, Hasher};
 
 // What a walk works out: a joining of two handles by an operator, a handle's cofactor at a level and a value,
 // or the set of a handle's primes over the options after the first few.
-#[derive(Clone, Copy, PartialEq, Eq)]
+#[derive(Clone, Copy, PartialEq, Eq, Hash)]
 pub enum Task {
     Join(Op, u16, u16),
     Restrict(u16, u8, bool),
@@ -40,36 +41,13 @@ pub struct DirectCache {
     places: [Option<Entry>; 1024],
 }
 
-// Whether two tasks are the same.
-fn same_task(a: Task, b: Task) -> bool
-    ensures { Decides result (a ≡ b) }
-{
-    a == b
-}
-
-// The kinds of a restriction and of primes, after the operators' numbers.
-const RESTRICTION: u64 = 6;
-
-const PRIMES: u64 = 7;
-
-// Odd factors that spread the bits of a task.
-const FIRST: u64 = 0x9E37_79B9_7F4A_7C15;
-
-const SECOND: u64 = 0xC2B2_AE3D_27D4_EB4F;
-
-// The task's place: the top bits of a mixture of all its parts, so that near handles collide no more than others.
+// The task's place: the top bits of its hash.
 fn place(task: Task) -> usize
     ensures { result < 1024 }
 {
-    let key = match task {
-        Task::Join(op, f, g) => f as u64 + 65_536 * (g as u64 + 65_536 * op as u64),
-        Task::Restrict(f, l, value) => {
-            f as u64 + 65_536 * (2 * l as u64 + value as u64 + 65_536 * RESTRICTION)
-        }
-        Task::Primes(f, gone) => f as u64 + 65_536 * (gone as u64 + 65_536 * PRIMES),
-    };
-    let mixed = key.wrapping_mul(FIRST);
-    ((mixed ^ (mixed >> 32)).wrapping_mul(SECOND) >> 54) as usize
+    let mut hasher = FoldHasher::default();
+    task.hash(&mut hasher);
+    (hasher.finish() >> 54) as usize
 }
 
 impl DirectCache {
@@ -87,16 +65,8 @@ impl Cache for DirectCache {
     ghost holds = { λ c e. Keeps c.places e };
 
     fn ask(&self, task: Task) -> Option<u16> {
-        match self.places[place(task)] {
-            Some(e) => {
-                if same_task(e.task, task) {
-                    Some(e.result)
-                } else {
-                    None
-                }
-            }
-            None => None,
-        }
+        let e = self.places[place(task)]?;
+        (e.task == task).then_some(e.result)
     }
 
     fn tell(&mut self, task: Task, res: u16) {

@@ -1,14 +1,14 @@
-// Walks over a decision diagram: inner code, whose functions have `requires`; only the engine above calls them.
+// Walks over a decision diagram: inner code, whose functions have `requires`; only the inner crates and the engine above call them.
 #![tactic(auto)]
 
 mod cache;
 mod cofactors;
 mod handles;
 mod joins;
+mod manager;
 mod ops;
 
 pub use cache::{Cache, DirectCache, Entry, Task};
-pub use cofactors::restrict;
-pub use handles::{branches, level, make};
-pub use joins::apply;
+pub use handles::{branches, level};
+pub use manager::Manager;
 pub use ops::{Op, shortcut};

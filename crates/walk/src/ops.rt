@@ -2,28 +2,24 @@ ghost use Rattle.std.specs.Prelude.{◌≡◌};
 ghost use Rattle.walk.specs.Ops.{answer};
 ghost use Rattle.walk.specs.Shortcuts.{Simple, Short};
 
-// An operator that joins two functions, answer by answer.
-#[derive(Clone, Copy, PartialEq, Eq)]
+use formula::Operator;
+
+// An operator that joins two functions, answer by answer: one of the notation's, or "and not".
+#[derive(Clone, Copy, PartialEq, Eq, Hash)]
 pub enum Op {
-    And,
-    Or,
-    Xor,
-    Implies,
-    Iff,
+    Infix(Operator),
     AndNot,
 }
 
-// The operator's answer at two answers.
-fn answer_of(op: Op, a: bool, b: bool) -> bool
-    ensures { result ≡ answer op a b }
-{
-    match op {
-        Op::And => a & b,
-        Op::Or => a | b,
-        Op::Xor => a ^ b,
-        Op::Implies => !a | b,
-        Op::Iff => a == b,
-        Op::AndNot => a & !b,
+impl Op {
+    // The operator's answer at two answers.
+    fn apply(self, a: bool, b: bool) -> bool
+        ensures { result ≡ answer self a b }
+    {
+        match self {
+            Op::Infix(operator) => operator.apply(a, b),
+            Op::AndNot => a && !b,
+        }
     }
 }
 
@@ -35,7 +31,7 @@ fn simple(a: bool, b: bool, h: u16) -> Option<u16>
     if a == b {
         return Some(a as u16);
     }
-    if b { Some(h) } else { None }
+    b.then_some(h)
 }
 
 // An operator's answer where one operand is constant, or both are one: it needs no descent.
@@ -43,17 +39,17 @@ pub fn shortcut(op: Op, f: u16, g: u16) -> Option<u16>
     ensures { Short op f g result }
 {
     if f == g {
-        return simple(answer_of(op, false, false), answer_of(op, true, true), f);
+        return simple(op.apply(false, false), op.apply(true, true), f);
     }
     if f < 2 {
         let a = f == 1;
-        if let Some(h) = simple(answer_of(op, a, false), answer_of(op, a, true), g) {
+        if let Some(h) = simple(op.apply(a, false), op.apply(a, true), g) {
             return Some(h);
         }
     }
     if g < 2 {
         let b = g == 1;
-        return simple(answer_of(op, false, b), answer_of(op, true, b), f);
+        return simple(op.apply(false, b), op.apply(true, b), f);
     }
     None
 }

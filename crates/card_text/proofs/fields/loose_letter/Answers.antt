@@ -1,14 +1,10 @@
-use Rattle.std.proofs.Common.{ℕ, arith}
-use Rattle.std.proofs.ByRecursion.{All-more}
-use Rattle.std.proofs.lemmas.List.{take_all}
+use Rattle.std.proofs.Common.{ℕ, rules, tests}
+use Rattle.std.proofs.lemmas.Iterator.{YieldsList-from_slice, IsFirst-from_position}
 use Rattle.card_text.specs.Card.{Loose}
+use Rattle.card_text.proofs.Searches.{first_at}
 use Rattle.card_text.proofs.fields.loose_letter.Goals as goal
-
-pub loop-i-preserved : goal.loop-i-preserved
-loop-i-preserved c =
-    All-more (λ (b : ℕ). Loose c.args.options b → ⊥) c.args.formula.now c.loop-i.i 0 (omega arith) c.loop-i.invariant c.if-is_loose.ensures
 
 pub returns : goal.returns
 returns c =
-    let all = take_all c.loop-i.i c.args.formula.now (omega arith) in
-    rw all at c.loop-i.invariant
+    let first = IsFirst-from_position _ _ _ (Loose c.args.options) (λ (b : ℕ). Loose c.args.options b → ⊥) c.position.ensures.ran (YieldsList-from_slice c.args.formula.now c.iter.ensures.rest) (λ x q k. search (rules, tests)) (λ x q k. search (rules, tests)) in
+    first_at (Loose c.args.options) (λ (b : ℕ). Loose c.args.options b → ⊥) _ c.position.result (λ i lt here before. record { inside = lt; loose = here; before = before }) first

@@ -1,6 +1,7 @@
 use Rattle.std.proofs.Common.{◌∷◌, length, sym, refl, ap, ◌∙◌, arith, rules}
 use Rattle.std.proofs.lemmas.Result.{err_from_is_err_and}
 use Rattle.card_text.proofs.Walk.{arrived_more, refused, ended, no_end}
+use Rattle.card_text.proofs.Once.{held_len}
 use Rattle.card_text.proofs.Tails.{card_tail}
 use Rattle.card_text.proofs.reader.read_card.Goals as goal
 
@@ -14,7 +15,7 @@ pub loop-at-preserved : goal.loop-at-preserved
 loop-at-preserved c =
     let now = c.loop-at.invariant in
     let s = c.in_ok-at.ensures in
-    (s.row ∷ now.0, arrived_more c.args.text.now c.loop-at.at c.loop-at.seen now.0 now.1 c.in_ok-at.at c.advance.new.seen s)
+    (s.row ∷ now.0, arrived_more c.args.text.now c.loop-at.at c.loop-at.seen now.0 now.1 c.in_ok-at.at c.advance.new.self s)
 
 pub returns-then-ne : goal.returns-then-ne
 returns-then-ne c =
@@ -31,7 +32,7 @@ returns c =
       card = card;
       title_at = refl;
       title_is = a.title_is;
-      options_is = sym a.fair.count ∙ ap length a.held_is;
+      options_is = c.len.ensures.value ∙ sym (held_len c.loop-at.seen) ∙ ap length a.held_is;
       uses_at = a.uses_at;
       tail = card_tail c.args.text.now rows c.loop-at.seen.uses card a.uses_at;
     }

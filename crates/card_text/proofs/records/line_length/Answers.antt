@@ -1,10 +1,12 @@
-use Rattle.std.proofs.Common.{◌≡◌, ℕ, arith, rules}
-use Rattle.std.proofs.ByRecursion.{All-more}
-use Rattle.std.proofs.lemmas.List.{take_all}
+use Rattle.std.proofs.Common.{◌≡◌, ℕ, rules, tests}
+use Rattle.std.proofs.lemmas.Iterator.{YieldsList-from_slice, IsFirst-from_position}
+use Rattle.card_text.proofs.Searches.{first_at}
 use Rattle.card_text.proofs.records.line_length.Goals as goal
 
-pub loop-i-preserved : goal.loop-i-preserved
-loop-i-preserved c = All-more (λ (b : ℕ). b ≡ 10 → ⊥) c.args.text.now c.loop-i.i 0 (omega arith) c.loop-i.invariant (search rules)
+abbrev Feed : ℕ → Type 0
+Feed b = b ≡ 10
 
 pub returns : goal.returns
-returns c = let all = take_all c.loop-i.i c.args.text.now (omega arith) in rw all at c.loop-i.invariant
+returns c =
+    let first = IsFirst-from_position _ _ _ Feed (λ b. Feed b → ⊥) c.position.ensures.ran (YieldsList-from_slice c.args.text.now c.iter.ensures.rest) (λ x q k. search (rules, tests)) (λ x q k. search (rules, tests)) in
+    first_at Feed (λ b. Feed b → ⊥) _ c.position.result (λ i lt here before. (lt, here, before)) first

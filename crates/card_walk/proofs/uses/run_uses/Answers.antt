@@ -1,53 +1,38 @@
-use Rattle.std.proofs.Common.{refl, ◌∙◌}
+use Rattle.std.proofs.Common.{◌≡◌, ℕ, ◌≤◌, List, length, drop, sym, subst, rules}
 use Rattle.std.proofs.lemmas.Result.{err_from_is_err_and}
+use Rattle.table.specs.Room.{same_room_trans}
+use Rattle.card_text.specs.Card.{Tail}
 use Rattle.card_walk.proofs.Going.{reached_none, use_derived, use_formula, use_tree, reached_more, reached_refused, reached_all}
 use Rattle.card_walk.proofs.uses.run_uses.Goals as goal
 
-pub loop-u-init : goal.loop-u-init
-loop-u-init g c = ((λ fs ts t d. reached_none _ _ _ fs ts c.requires.sound.formed t d), refl, refl, c.requires.sound, c.requires.right)
+pub loop-formula-init : goal.loop-formula-init
+loop-formula-init g c =
+    let it = c.into_iter-formula-iterator.result in
+    let text : it.text.now ≡ c.args.text.now = search rules in
+    let from : drop it.at it.text.now ≡ drop c.args.uses c.args.text.now = search rules in
+    ((λ fs ts t d. reached_none fs ts (g.met.T.NodeTable.sound c.args.manager.now.table).formed (subst (λ (l : List ℕ). length l ≤ 4096) (sym text) c.requires.short) (subst (Tail fs) (sym from) t) d), search rules)
 
-pub run_use-requires : goal.run_use-requires
-run_use-requires g c =
+pub run_use-requires-clause-formula : goal.run_use-requires-clause-formula
+run_use-requires-clause-formula g c =
     let p = c.requires.card in
-    let r = c.loop-u.invariant.0 p.0 p.1 p.2 p.3 in
-    record {
-      sound = c.loop-u.invariant.3;
-      right = c.loop-u.invariant.4;
-      formula = use_formula r c.in-Some.u c.in-Some.ensures c.requires.short;
-      sum = r.made.issued;
-    }
+    use_formula (c.loop-formula.invariant.0 p.0 p.1 p.2 p.3) c.next.new.self c.in-Some.ensures.steps
 
-pub returns-in_err-sum : goal.returns-in_err-sum
-returns-in_err-sum g c =
-    let u = c.in-Some.u in
-    let a = c.in-Some.ensures in
-    let made = c.in_err-sum.ensures in
+pub returns-in_err-sum-clause-value : goal.returns-in_err-sum-clause-value
+returns-in_err-sum-clause-value g c fs ts t d =
+    let next = c.next.new.self in
+    let a = c.in-Some.ensures.steps in
     let p = err_from_is_err_and c.from_residual.result c.from_residual.ensures.1 in
-    record {
-      size = made.size ∙ c.loop-u.invariant.1;
-      rest = made.rest ∙ c.loop-u.invariant.2;
-      sound = made.sound;
-      right = made.right;
-      value = λ fs ts t d. let r = c.loop-u.invariant.0 fs ts t d in rw (p.1, p.2) (reached_refused r u a c.loop-u.invariant.1 (made.value (use_tree r u a) (use_derived r u a)));
-    }
+    let r = c.loop-formula.invariant.0 fs ts t d in
+    rw (p.1, p.2) (reached_refused r next a c.loop-formula.invariant.1.size (c.in_err-sum.ensures.value (use_tree r next a) (use_derived r next a)))
 
-pub loop-u-preserved : goal.loop-u-preserved
-loop-u-preserved g c =
-    let u = c.in-Some.u in
-    let a = c.in-Some.ensures in
+pub loop-formula-preserved : goal.loop-formula-preserved
+loop-formula-preserved g c =
+    let next = c.next.new.self in
+    let a = c.in-Some.ensures.steps in
     let made = c.in_ok-sum.ensures in (
-      (λ fs ts t d. let r = c.loop-u.invariant.0 fs ts t d in reached_more r u a (made.value (use_tree r u a) (use_derived r u a)).outcome),
-      made.size ∙ c.loop-u.invariant.1,
-      made.rest ∙ c.loop-u.invariant.2,
-      made.sound,
-      made.right,
+      (λ fs ts t d. let r = c.loop-formula.invariant.0 fs ts t d in reached_more r next a (made.value (use_tree r next a) (use_derived r next a)).outcome),
+      same_room_trans c.loop-formula.invariant.1 made.room,
     )
 
-pub returns : goal.returns
-returns g c = record {
-  size = c.loop-u.invariant.1;
-  rest = c.loop-u.invariant.2;
-  sound = c.loop-u.invariant.3;
-  right = c.loop-u.invariant.4;
-  value = λ fs ts t d. reached_all (c.loop-u.invariant.0 fs ts t d) _ c.in_default.ensures;
-}
+pub returns-clause-value : goal.returns-clause-value
+returns-clause-value g c fs ts t d = reached_all (c.loop-formula.invariant.0 fs ts t d) c.in-None.ensures.steps

@@ -1,18 +1,16 @@
-use Rattle.std.proofs.Common.{◌≡◌, ℕ, ◌+◌, List, sym, ap, ◌∙◌, subst}
-use Rattle.packed.specs.Layout.{slot_start}
-use Rattle.packed.specs.Inner.{put16, Wrote, Slot}
-use Rattle.packed.proofs.Writes.{written, wrote_written, slot_written}
+use Rattle.std.proofs.Common.{rules, ◌≡◌, ℕ, ◌+◌, ◌<◌, ◌≤◌, List, length, get_or, ap, ◌∙◌, arith}
+use Rattle.std.proofs.lemmas.Grind.{common_steps}
+use borrow.Rule.Slice.PartMut.{put_mid}
+use Rattle.packed.specs.Layout.{node_bytes, slot_start}
 use Rattle.packed.proofs.Bytes.put_slot.Goals as goal
 
-pub returns : goal.returns
-returns c =
-    let bs = c.args.self.now.buf.now in
-    let k = c.args.k in
-    let n = c.args.node in
-    let l = c.args.link in
-    let e : c.put16-3.new.self.buf.now ≡ written bs (slot_start k) n l =
-    c.put16-3.ensures ∙ ap (λ (b : List ℕ). put16 b (slot_start k + 6) l) (c.put16-2.ensures ∙ ap (λ (b : List ℕ). put16 b (slot_start k + 4) n.high) c.put16.ensures) in
-    record {
-      frame = subst (Wrote (slot_start k) (slot_start k + 8) bs) (sym e) (wrote_written bs (slot_start k) n l);
-      slot = subst (λ (b : List ℕ). Slot b k n l) (sym e) (slot_written bs k n l c.requires);
-    }
+-- What was written into a part of a list is read there.
+part_at : (bs ys : List ℕ) (a k j : ℕ) → a ≤ length bs → j < length ys → get_or (put_mid a k bs ys) (a + j) 0 ≡ get_or ys j 0
+part_at bs ys a k j p q = grind (arith, common_steps)
+
+pub returns-clause-slot : goal.returns-clause-slot
+returns-clause-slot c j l =
+    let p = slot_start c.args.k in
+    let r = c.requires in
+    let e : c.copy_from_slice.new.self ≡ node_bytes c.args.node c.args.link = search rules in
+    part_at c.args.self.now.buf.now c.copy_from_slice.new.self p _ j (omega arith) (omega (arith, ap length e)) ∙ ap (λ (xs : List ℕ). get_or xs j 0) e

@@ -1,7 +1,7 @@
 use Rattle.std.proofs.Common.{◌<◌, length, arith}
 use Rattle.packed.specs.Layout.{size_of}
-use Rattle.packed.proofs.Props.{laid_out}
-use Rattle.packed.proofs.Chains.{decode_length}
+use Rattle.packed.specs.Props.{laid_out}
+use Rattle.packed.specs.Held.{decode_length}
 use Rattle.packed.proofs.PackedTable.find.Goals as goal
 
 pub returns-then-self-eq0 : goal.returns-then-self-eq0
@@ -16,6 +16,3 @@ find-requires c =
     let z = c.if-self-eq0.false in
     let h : 0 < size_of (length t.bytes.buf.now) = omega arith in
     record { room = omega arith; small = omega arith; laid = laid_out t.held t.bytes.buf.now t.laid h }
-
-pub returns : goal.returns
-returns c = c.find.ensures

@@ -1,5 +1,5 @@
 use Rattle.std.proofs.Common.{refl}
-use Rattle.packed.proofs.Exact.{exact}
+use Rattle.packed.specs.Exact.{exact}
 use Rattle.packed.proofs.PackedTable.into_memory.Goals as goal
 
 pub returns : goal.returns

@@ -3,7 +3,7 @@ use mathlib.Core.Logic.{∥∥₁_map}
 use Rattle.diagram.specs.Nodes.{WellFormed}
 use Rattle.packed.specs.Layout.{size_of, decode, chain_of}
 use Rattle.packed.specs.Inner.{put16, Laid}
-use Rattle.packed.proofs.Props.{laid_out}
+use Rattle.packed.specs.Props.{laid_out}
 use Rattle.packed.proofs.Leaving.{Left, left}
 use Rattle.packed.proofs.PackedTable.pop.Goals as goal
 use Rattle.packed.proofs.PackedTable.pop.Goals.{After-clear_slot}

@@ -1,16 +1,8 @@
-use Rattle.std.proofs.Common.{◌≡◌, ℕ, ◌+◌, ◌-◌, length, drop, refl, ap, ◌∙◌, arith}
+use Rattle.std.proofs.Common.{◌≡◌, ℕ, ◌+◌, ◌-◌, length, drop, ap, ◌∙◌, arith}
 use Rattle.std.proofs.lemmas.List.{drop-drop}
 use Rattle.packed.specs.Layout.{size_of, decode}
-use Rattle.packed.proofs.Chains.{decode_length}
-use Rattle.packed.proofs.Exact.{exact}
+use Rattle.packed.specs.Held.{decode_length}
 use Rattle.packed.proofs.PackedTableNodeTable.truncate.Goals as goal
-
-pub loop-self-init : goal.loop-self-init
-loop-self-init c =
-    let t = c.args.self.now in
-    let ns = decode t.held t.bytes.buf.now in
-    let z : 0 ≡ t.held - t.held = omega arith in
-    (ap (λ (k : ℕ). drop k ns) z, refl, refl, omega arith, omega arith)
 
 pub loop-self-preserved : goal.loop-self-preserved
 loop-self-preserved c =
@@ -44,7 +36,5 @@ returns c =
     let all : t.held - s.held ≡ length ns - c.args.count = omega arith in
     record {
       nodes = i.0 ∙ ap (λ (k : ℕ). drop k ns) all;
-      size = ap size_of i.1;
-      rest = i.2;
-      memory = exact s.held s.bytes.buf.now s.room s.laid;
+      room = record { size = ap size_of i.1; rest = i.2 };
     }

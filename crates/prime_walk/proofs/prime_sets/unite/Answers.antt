@@ -1,94 +1,48 @@
-use Rattle.std.proofs.Common.{◌∙◌, arith}
+use Rattle.std.proofs.Common.{◌∙◌}
 use Rattle.std.proofs.lemmas.Result.{err_from_is_err_and}
-use Rattle.walk.proofs.Remembered.{right_kept}
-use Rattle.prime_walk.proofs.United.{walked_extends, first_refused, second_left, second_right, second_refused, first_stands, second_stands, third_refused, set_low, set_high, last_walked}
+use Rattle.prime_walk.proofs.United.{first_refused, second_refused, first_stands, second_stands, third_refused, set_low, last_walked}
 use Rattle.prime_walk.proofs.prime_sets.unite.Goals as goal
 
-pub apply-requires : goal.apply-requires
-apply-requires g c = record { sound = c.requires.sound; f = c.requires.low.issued; g = c.requires.p.issued; right = c.requires.right }
-
-pub returns-in_err-q0 : goal.returns-in_err-q0
-returns-in_err-q0 g c =
+pub returns-in_err-q0-clause-value : goal.returns-in_err-q0-clause-value
+returns-in_err-q0-clause-value g c =
+    let pre = c.requires in
     let r = err_from_is_err_and c.from_residual.result c.from_residual.ensures.1 in
-    let x = c.in_err-q0.ensures in
-    record { size = x.size; rest = x.rest; sound = x.sound; right = x.right; value = rw (r.1, r.2) (first_refused c.requires.sound c.requires.option c.requires.p c.requires.low c.requires.high x.value) }
+    rw (r.1, r.2) (first_refused (g.met.T.NodeTable.sound c.args.manager.now.table) pre.option pre.p pre.low pre.high c.in_err-q0.ensures.value)
 
-pub apply-requires-2 : goal.apply-requires-2
-apply-requires-2 g c =
-    let a = c.in_ok-q0.ensures in
+pub returns-in_err-q1-clause-value : goal.returns-in_err-q1-clause-value
+returns-in_err-q1-clause-value g c =
     let pre = c.requires in
-    record {
-      sound = a.sound;
-      f = second_left pre.sound pre.option pre.p pre.low pre.high a.value;
-      g = second_right pre.sound pre.option pre.p pre.low pre.high a.value;
-      right = a.right;
-    }
-
-pub returns-in_err-q1 : goal.returns-in_err-q1
-returns-in_err-q1 g c =
+    let a = c.in_ok-q0.ensures in
     let r = err_from_is_err_and c.from_residual-in_err-q1.result c.from_residual-in_err-q1.ensures.1 in
-    let a = c.in_ok-q0.ensures in
-    let x = c.in_err-q1.ensures in
-    let pre = c.requires in
-    record {
-      size = x.size ∙ a.size;
-      rest = x.rest ∙ a.rest;
-      sound = x.sound;
-      right = x.right;
-      value = rw (r.1, r.2) (second_refused pre.sound pre.option pre.p pre.low pre.high a.value a.size x.value);
-    }
+    rw (r.1, r.2) (second_refused (g.met.T.NodeTable.sound c.args.manager.now.table) pre.option pre.p pre.low pre.high a.value a.room.size c.in_err-q1.ensures.value)
 
-pub make-requires : goal.make-requires
-make-requires g c =
+pub make-requires-clause-low : goal.make-requires-clause-low
+make-requires-clause-low g c =
+    let pre = c.requires in
+    first_stands (g.met.T.NodeTable.sound c.args.manager.now.table) pre.option pre.p pre.low pre.high c.in_ok-q0.ensures.value c.in_ok-q1.ensures.value
+
+pub make-requires-clause-high : goal.make-requires-clause-high
+make-requires-clause-high g c =
+    let pre = c.requires in
+    second_stands (g.met.T.NodeTable.sound c.args.manager.now.table) pre.option pre.p pre.low pre.high c.in_ok-q0.ensures.value c.in_ok-q1.ensures.value
+
+pub returns-in_err-s-clause-value : goal.returns-in_err-s-clause-value
+returns-in_err-s-clause-value g c =
+    let pre = c.requires in
     let a = c.in_ok-q0.ensures in
     let b = c.in_ok-q1.ensures in
-    let pre = c.requires in
-    record {
-      sound = b.sound;
-      low = first_stands pre.sound pre.option pre.p pre.low pre.high a.value b.value;
-      high = second_stands pre.sound pre.option pre.p pre.low pre.high a.value b.value;
-      first = omega arith;
-    }
-
-pub returns-in_err-s : goal.returns-in_err-s
-returns-in_err-s g c =
     let r = err_from_is_err_and c.from_residual-in_err-s.result c.from_residual-in_err-s.ensures.1 in
-    let a = c.in_ok-q0.ensures in
-    let b = c.in_ok-q1.ensures in
-    let x = c.in_err-s.ensures in
-    let pre = c.requires in
-    record {
-      size = x.size ∙ b.size ∙ a.size;
-      rest = x.rest ∙ b.rest ∙ a.rest;
-      sound = x.sound;
-      right = right_kept x.value.outcome.denies.grows.extends b.right;
-      value = rw (r.1, r.2) (third_refused pre.sound pre.option pre.p pre.low pre.high a.value b.value (b.size ∙ a.size) x.value);
-    }
+    rw (r.1, r.2) (third_refused (g.met.T.NodeTable.sound c.args.manager.now.table) pre.option pre.p pre.low pre.high a.value b.value (b.room.size ∙ a.room.size) c.in_err-s.ensures.value)
 
-pub make-requires-2 : goal.make-requires-2
-make-requires-2 g c =
+pub make-requires-2-clause-low : goal.make-requires-2-clause-low
+make-requires-2-clause-low g c =
+    let pre = c.requires in
+    set_low (g.met.T.NodeTable.sound c.args.manager.now.table) pre.option pre.p pre.low pre.high c.in_ok-q0.ensures.value c.in_ok-q1.ensures.value c.in_ok-s.ensures.value
+
+pub returns-clause-value : goal.returns-clause-value
+returns-clause-value g c =
+    let pre = c.requires in
     let a = c.in_ok-q0.ensures in
     let b = c.in_ok-q1.ensures in
     let s = c.in_ok-s.ensures in
-    let pre = c.requires in
-    record {
-      sound = s.sound;
-      low = set_low pre.sound pre.option pre.p pre.low pre.high a.value b.value s.value;
-      high = set_high pre.sound pre.option pre.p pre.low pre.high a.value b.value s.value;
-      first = omega arith;
-    }
-
-pub returns : goal.returns
-returns g c =
-    let a = c.in_ok-q0.ensures in
-    let b = c.in_ok-q1.ensures in
-    let s = c.in_ok-s.ensures in
-    let x = c.make-2.ensures in
-    let pre = c.requires in
-    record {
-      size = x.size ∙ s.size ∙ b.size ∙ a.size;
-      rest = x.rest ∙ s.rest ∙ b.rest ∙ a.rest;
-      sound = x.sound;
-      right = right_kept (walked_extends c.make-2.result x.value) (right_kept s.value.outcome.grows.extends b.right);
-      value = last_walked pre.sound pre.option pre.p pre.low pre.high a.value b.value s.value c.make-2.result (s.size ∙ b.size ∙ a.size) x.value;
-    }
+    last_walked (g.met.T.NodeTable.sound c.args.manager.now.table) pre.option pre.p pre.low pre.high a.value b.value s.value c.make-2.result (s.room.size ∙ b.room.size ∙ a.room.size) c.make-2.ensures.value

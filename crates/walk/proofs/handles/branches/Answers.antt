@@ -1,11 +1,11 @@
 use Rattle.walk.proofs.Made.{split_node, split_deeper, split_constant}
 use Rattle.walk.proofs.handles.branches.Goals as goal
 
-pub returns-then-n-l : goal.returns-then-n-l
-returns-then-n-l g c = split_node c.requires.sound.formed c.in-Ok.ensures c.if-n-l.true
+pub returns-in-Ok : goal.returns-in-Ok
+returns-in-Ok g c = split_node (g.met.T.NodeTable.sound c.args.table.now).formed c.in-Ok.ensures c.if-n-l.true
 
-pub returns-else-n-l : goal.returns-else-n-l
-returns-else-n-l g c = split_deeper c.requires.issued c.requires.level c.in-Ok.ensures c.if-n-l.false
+pub returns-in_default : goal.returns-in_default
+returns-in_default g c = split_deeper c.requires.issued c.requires.level c.in-Ok.ensures c.if-n-l.false
 
-pub returns-in-Err : goal.returns-in-Err
-returns-in-Err g c = split_constant c.requires.issued c.requires.last c.in-Err.ensures
+pub returns-in_default-2 : goal.returns-in_default-2
+returns-in_default-2 g c = split_constant c.requires.issued c.requires.last c.in_default.ensures

@@ -1,19 +1,12 @@
-use Rattle.std.proofs.Common.{refl, ◌∙◌, inl, arith}
-use Rattle.engine.proofs.Making.{made_as}
+use Rattle.std.proofs.Common.{refl, inl, arith}
+use Rattle.diagram.specs.Nodes.{meaning}
+use Rattle.engine.specs.Works.{fixed}
+use Rattle.engine.proofs.Making.{made_call}
 use Rattle.engine.proofs.graph.Graph.restrict.Goals as goal
 
-pub restrict-walked-requires : goal.restrict-walked-requires
-restrict-walked-requires g c = record {
-  sound = c.len-held.ensures.sound;
-  f = c.in_ok-issued.ensures;
-  last = omega (arith, c.if-k-gt12.false);
-  right = λ e h. absurd (c.clear.ensures e h);
-}
-
-pub returns : goal.returns
-returns g c = record {
-  out = record { outcome = inl ((omega (arith, c.if-k-lt1.false), omega (arith, c.if-k-gt12.false)), inl (c.in_ok-issued.ensures, made_as _ _ _ _ _ _ _ _ _ _ _ refl c.restrict-walked.ensures.size c.restrict-walked.ensures.sound c.len-held.ensures.value c.restrict-walked.ensures.value c.end.ensures.ended)) };
-  size = c.end.ensures.size ∙ c.restrict-walked.ensures.size;
-  rest = c.end.ensures.rest ∙ c.restrict-walked.ensures.rest;
-  memory = c.end.ensures.memory;
-}
+pub returns-clause-out : goal.returns-clause-out
+returns-clause-out g c =
+    let T = g.T.NodeTable in
+    let w = c.restrict-walked.ensures in
+    let made = made_call T.limit T.nodes c.self.view_is w.room.size (g.met.T.NodeTable.sound c.restrict-walked.new.self.table) c.len-held.ensures (λ s. fixed c.args.k c.args.value (meaning (T.nodes s) c.args.f)) refl w.value c.end.ensures.ended in
+    record { outcome = inl ((omega (arith, c.if-k-lt1.false), omega (arith, c.if-k-gt12.false)), inl (c.in_ok-issued.ensures, made)) }

@@ -1,21 +1,8 @@
-use Rattle.std.proofs.Common.{◌∙◌}
-use Rattle.engine.proofs.Making.{made_sums}
+use Rattle.engine.proofs.Making.{made_sum}
 use Rattle.engine.proofs.graph.Graph.sum_uses.Goals as goal
 
-pub run_uses-walked-requires : goal.run_uses-walked-requires
-run_uses-walked-requires g c = record {
-  sound = c.len-held.ensures.sound;
-  right = λ e h. absurd (c.clear.ensures e h);
-  short = c.requires.short;
-  card = c.requires.card;
-}
-
-pub returns : goal.returns
-returns g c =
+pub returns-clause-out : goal.returns-clause-out
+returns-clause-out g c fs ts t d =
+    let T = g.T.NodeTable in
     let w = c.run_uses-walked.ensures in
-    record {
-      out = λ fs ts t d. made_sums _ _ _ _ _ _ ts _ _ w.size w.sound c.len-held.ensures.value (w.value fs ts t d) c.end.ensures.ended;
-      size = c.end.ensures.size ∙ w.size;
-      rest = c.end.ensures.rest ∙ w.rest;
-      memory = c.end.ensures.memory;
-    }
+    made_sum T.limit T.nodes c.self.view_is w.room.size (g.met.T.NodeTable.sound c.run_uses-walked.new.manager.table) c.len-held.ensures (w.value fs ts t d) c.end.ensures.ended

@@ -3,4 +3,4 @@ use Rattle.listing.proofs.Essentials.{counted_more}
 use Rattle.listing.proofs.receivers.CounterReceiver.take.Goals as goal
 
 pub returns : goal.returns
-returns c = λ cs os ps h. counted_more ps (words_of c.args.product) c.args.counts.now c.count_product.new.counts h c.count_product.ensures
+returns c = λ start ps fed begun. counted_more ps (words_of c.args.product) c.args.self.now.counts c.add.new.self.counts (fed begun) c.add.ensures

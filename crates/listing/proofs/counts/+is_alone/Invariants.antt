@@ -1,4 +1,0 @@
-use Rattle.listing.proofs.counts.+is_alone.Given as goal
-
-abbrev pub decreases-is_alone : goal.decreases-is_alone
-decreases-is_alone l = l.n

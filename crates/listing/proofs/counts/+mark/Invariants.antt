@@ -1,4 +1,0 @@
-use Rattle.listing.proofs.counts.+mark.Given as goal
-
-abbrev pub decreases-mark : goal.decreases-mark
-decreases-mark l = l.n

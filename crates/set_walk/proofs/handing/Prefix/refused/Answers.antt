@@ -1,8 +1,0 @@
-use Rattle.std.proofs.Common.{◌+◌, ◌<◌, arith, rules}
-use Rattle.set_walk.proofs.Walking.{named_room}
-use Rattle.set_walk.proofs.handing.Prefix.refused.Goals as goal
-
-pub overflow_add-result-2 : goal.overflow_add-result-2
-overflow_add-result-2 c =
-    let few : c.args.self.named + c.bit.result < 4096 = omega (arith, named_room c.args.self c.requires.next c.requires.begun) in
-    search (rules, few)
