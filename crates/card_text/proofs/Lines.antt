@@ -1,6 +1,6 @@
 use Rattle.std.proofs.Common.{◌≡◌, ℕ, ◌+◌, ◌-◌, ◌<◌, ◌≤◌, Bool, true, false, cond, T, eqb, List, [], ◌∷◌, ◌++◌, length, get_or, take, drop, sym, refl, ap, ◌∙◌, append_assoc, arith, length-append, length-drop, take-append-drop}
 use Rattle.std.proofs.lemmas.Bool.{eqb-false}
-use Rattle.std.proofs.lemmas.List.{drop_more, take_rest}
+use Rattle.std.proofs.lemmas.List.{drop_more}
 use Rattle.card_text.specs.Grammar.{Row, spell, NoFeed, Begins}
 use Rattle.card_text.specs.Card.{spelled}
 use Rattle.card_text.specs.Reads.{NoRecord}
@@ -49,23 +49,20 @@ pub on_line : (t : List ℕ) (n : ℕ) (row : Row) (more : List ℕ) → n < len
 on_line t n row more lt feed free b =
     (one_line (take n t) (spell row) (drop (n + 1) t) more free b.whole (sym (cut_at t n lt feed) ∙ b.line)).0
 
--- what `&text[at..]` and `&rest[0..n]` hold
-abbrev pub rest_of : List ℕ → ℕ → List ℕ
-rest_of text at = take (length text - at) (drop at text)
+-- the first line feed of the text stands at n
+abbrev pub Ends : List ℕ → ℕ → Type 0
+Ends t n = (n < length t) × (get_or t n 0 ≡ 10) × NoFeed (take n t)
 
-abbrev pub line_of : List ℕ → ℕ → ℕ → List ℕ
-line_of text at n = take (n - 0) (rest_of text at)
+-- what `&t[0..n]` holds
+abbrev pub line_of : List ℕ → ℕ → List ℕ
+line_of t n = take (n - 0) t
 
--- the first line feed of the rest stands at n
-abbrev pub Ends : List ℕ → ℕ → ℕ → Type 0
-Ends text at n = (n < length (rest_of text at)) × (get_or (rest_of text at) n 0 ≡ 10) × NoFeed (take n (rest_of text at))
+line_is : (t : List ℕ) (n : ℕ) → line_of t n ≡ take n t
+line_is t n = let zero : n - 0 ≡ n = omega arith in ap (λ k. take k t) zero
 
-line_is : (text : List ℕ) (at n : ℕ) → line_of text at n ≡ take n (rest_of text at)
-line_is text at n = let zero : n - 0 ≡ n = omega arith in ap (λ k. take k (rest_of text at)) zero
-
-pub unread_line : (text : List ℕ) (at n : ℕ) → Ends text at n → ((row : Row) → line_of text at n ≡ spell row → ⊥) → NoRecord text at
-unread_line text at n ends none row more b =
-    none row (line_is text at n ∙ on_line (rest_of text at) n row more ends.0 ends.1 ends.2 (record { line = take_rest text at ∙ b.line; whole = b.whole }))
+pub unread_line : (text : List ℕ) (at : ℕ) (rest : List ℕ) (n : ℕ) → rest ≡ drop at text → Ends rest n → ((row : Row) → line_of rest n ≡ spell row → ⊥) → NoRecord text at
+unread_line text at rest n same ends none row more b =
+    none row (line_is rest n ∙ on_line rest n row more ends.0 ends.1 ends.2 (record { line = same ∙ b.line; whole = b.whole }))
 
 -- nothing begins at the end of a text, or past it
 pub past_end : (text : List ℕ) (at : ℕ) → length text ≤ at → NoRecord text at

@@ -1,41 +1,35 @@
 -- Why any other text is no card: the number and the place.
-use Rattle.std.specs.Prelude.{◌≡◌, ℕ, ◌+◌, ◌<◌, ◌≤◌, List, [], ◌++◌, length, take, ◌≢◌, slice_index}
+use Rattle.std.specs.Prelude.{◌≡◌, ℕ, ◌+◌, ◌-◌, ◌^◌, ◌<◌, ◌≤◌, min, List, [], ◌++◌, length, take, ◌≢◌, slice_index}
 use Rattle.formula.specs.declared.faults.FormulaFault.{FormulaFault}
 use Rattle.formula.specs.declared.faults.FormulaFault.TheVariants as formula
+use Rattle.formula.specs.Faults.{fault_number, fault_place}
 use Rattle.formula.specs.Answer.{Refused as NoFormula}
 use Rattle.card_text.specs.Grammar.{Row, card_row, opt_row, use_row, end_row, Begins}
 use Rattle.card_text.specs.Card.{spelled, option_names, stage_after, Fits, Ruled, IsFormula, Loose, AllGiven, Good}
 use Rattle.card_text.specs.declared.state.Stage.{Stage}
 use Rattle.card_text.specs.declared.state.Stage.TheVariants.{Done}
 use Rattle.card_text.specs.declared.faults.TextFault.{TextFault}
-use Rattle.card_text.specs.declared.faults.TextFault.TheVariants.{TooLong, ForeignByte, Unexpected, TooDeep, Form, Field, LooseLetter}
+use Rattle.card_text.specs.declared.faults.TextFault.TheVariants.{TooLong, Formula, Form, Field, LooseLetter}
 
 -- the number of a fault
 abbrev pub text_number : TextFault → ℕ
 text_number TooLong = 1
-text_number (ForeignByte p) = 2
-text_number (Unexpected p) = 3
-text_number (TooDeep p) = 4
+text_number (Formula fault at) = fault_number fault
 text_number (Form p) = 6
 text_number (Field p) = 7
 text_number (LooseLetter p) = 8
 
--- its place in the text
+-- its place in the text; a sum of places stops at the largest usize, which no fault of a card comes near
 abbrev pub text_place : TextFault → ℕ
 text_place TooLong = 4096
-text_place (ForeignByte p) = p
-text_place (Unexpected p) = p
-text_place (TooDeep p) = p
+text_place (Formula fault at) = min (at + fault_place fault) (2 ^ 64 - 1)
 text_place (Form p) = p
 text_place (Field p) = p
 text_place (LooseLetter p) = p
 
--- a formula's fault as seen from the text in which the formula begins at `at`; none of a card is too long
+-- a formula's fault, where the formula begins at `at`; none of a card is too long
 abbrev pub Moved : ℕ → FormulaFault → TextFault → Type 0
-Moved at formula.TooLong fault = ⊥
-Moved at (formula.ForeignByte p) fault = fault ≡ ForeignByte (at + p)
-Moved at (formula.Unexpected p) fault = fault ≡ Unexpected (at + p)
-Moved at (formula.TooDeep p) fault = fault ≡ TooDeep (at + p)
+Moved at e fault = (e ≢ formula.TooLong) × (fault ≡ Formula e at)
 
 -- the first letter that none of the first k options has stands at i
 pub record First (k : ℕ) (bytes : List ℕ) (i : ℕ) : Type 0 where

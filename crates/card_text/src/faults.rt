@@ -1,16 +1,16 @@
 ghost use Rattle.std.specs.Prelude.{◌≡◌};
 ghost use Rattle.card_text.specs.Faults.{text_number, text_place};
 
+use formula::FormulaFault;
+
 // The bytes that a card may have: a limit of cards, and the same number as that of formulas by chance.
 pub const MAX_LENGTH: usize = 4096;
 
-// Why a text is no card; but for the first, each holds the place of the fault in that text.
+// Why a text is no card. A formula's fault stands whole beside the place where the formula begins; the last three hold the place of the fault in that text.
 #[derive(Clone, Copy, PartialEq, Eq, Debug)]
 pub enum TextFault {
     TooLong,
-    ForeignByte(usize),
-    Unexpected(usize),
-    TooDeep(usize),
+    Formula { fault: FormulaFault, at: usize },
     Form(usize),
     Field(usize),
     LooseLetter(usize),
@@ -24,9 +24,7 @@ impl TextFault {
     {
         match self {
             TextFault::TooLong => 1,
-            TextFault::ForeignByte(_) => 2,
-            TextFault::Unexpected(_) => 3,
-            TextFault::TooDeep(_) => 4,
+            TextFault::Formula { fault, at: _ } => fault.number(),
             TextFault::Form(_) => 6,
             TextFault::Field(_) => 7,
             TextFault::LooseLetter(_) => 8,
@@ -39,9 +37,8 @@ impl TextFault {
     {
         match self {
             TextFault::TooLong => MAX_LENGTH,
-            TextFault::ForeignByte(at) => at,
-            TextFault::Unexpected(at) => at,
-            TextFault::TooDeep(at) => at,
+            // No fault of a card comes near the limit, but the type allows any place.
+            TextFault::Formula { fault, at } => at.saturating_add(fault.place()),
             TextFault::Form(at) => at,
             TextFault::Field(at) => at,
             TextFault::LooseLetter(at) => at,

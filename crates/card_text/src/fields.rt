@@ -1,12 +1,10 @@
 // The rules of a record's fields.
-ghost use Rattle.std.specs.Prelude.{◌+◌, ◌≤◌, ◌↔◌, length, IsTrue, MatchOption, MatchResult, ◌≢◌};
-ghost use Rattle.formula.specs.Faults.{fault_place};
-ghost use Rattle.formula.specs.declared.faults.FormulaFault.TheVariants.{TooLong};
+ghost use Rattle.std.specs.Prelude.{◌+◌, ◌≤◌, ◌↔◌, length, IsTrue, MatchOption, MatchResult};
 ghost use Rattle.card_text.specs.Card.{Plain, Within, Loose, AllGiven, IsFormula};
-ghost use Rattle.card_text.specs.Faults.{Moved, First, Misread};
+ghost use Rattle.card_text.specs.Faults.{First, Misread};
 
 use crate::faults::TextFault;
-use formula::{Formula, FormulaFault};
+use formula::Formula;
 
 // Whether a title or a name may hold the byte.
 fn is_plain(b: u8) -> bool
@@ -36,7 +34,7 @@ fn is_loose(b: u8, options: usize) -> bool
     requires { options ≤ 12 }
     ensures { IsTrue result ↔ Loose options b }
 {
-    97 + options <= b as usize && b <= b'l'
+    b'a' as usize + options <= b as usize && b <= b'l'
 }
 
 // The first place of a letter that no OPT has given.
@@ -45,20 +43,6 @@ fn loose_letter(formula: &[u8], options: usize) -> Option<usize>
     ensures { MatchOption result (AllGiven options formula.now) (λ i. First options formula.now i) }
 {
     formula.iter().position(|b| is_loose(*b, options))
-}
-
-// A formula's fault, as seen from the text in which the formula begins at `at`.
-fn moved(fault: FormulaFault, at: usize) -> TextFault
-    requires near { at + fault_place fault ≤ 4096 }
-    requires short { fault ≢ TooLong }
-    ensures { Moved at fault result }
-{
-    match fault {
-        FormulaFault::TooLong => unreachable(),
-        FormulaFault::ForeignByte(p) => TextFault::ForeignByte(at + p),
-        FormulaFault::Unexpected(p) => TextFault::Unexpected(at + p),
-        FormulaFault::TooDeep(p) => TextFault::TooDeep(at + p),
-    }
 }
 
 // Whether a formula stands at `at`, all of its letters given by an OPT.
@@ -72,6 +56,6 @@ pub fn judge_formula(formula: &[u8], at: usize, options: usize) -> Result<(), Te
             Some(i) => Err(TextFault::LooseLetter(at + i)),
             None => Ok(()),
         },
-        Err(fault) => Err(moved(fault, at)),
+        Err(fault) => Err(TextFault::Formula { fault, at }),
     }
 }

@@ -51,11 +51,10 @@ fn behind<'a>(line: &'a [u8], word: &[u8]) -> Option<&'a [u8]>
 fn option_on(line: &[u8]) -> Option<(u8, &[u8])>
     ensures { MatchOption result ((letter : ℕ) (name : List ℕ) → line.now ≢ spell (opt_row letter name)) (λ o. line.now ≡ spell (opt_row o.0 o.1.now)) }
 {
-    let rest = behind(line, b"OPT,")?;
-    if rest.len() < 2 || rest[1] != b',' {
+    let [letter, b',', name @ ..] = behind(line, b"OPT,")? else {
         return None;
-    }
-    Some((rest[0], &rest[2..]))
+    };
+    Some((*letter, name))
 }
 
 // The record on a line that begins at `at`.
@@ -88,17 +87,17 @@ fn record_on(line: &[u8], at: usize) -> Option<Record<'_>>
             },
         });
     }
-    (line == b"END".as_slice()).then_some(Record::End)
+    match line {
+        b"END" => Some(Record::End),
+        _ => None,
+    }
 }
 
 // The record that begins at `at` and ends with a line feed, whatever stands before it.
 pub fn record_at(text: &[u8], at: usize) -> Option<Found<'_>>
     ensures { MatchOption result (NoRecord text.now at) (λ x. RecordAt text.now at x) }
 {
-    if at > text.len() {
-        return None;
-    }
-    let rest = &text[at..];
+    let rest = text.get(at..)?;
     let n = line_length(rest)?;
     let record = record_on(&rest[0..n], at)?;
     Some(Found {

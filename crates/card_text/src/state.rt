@@ -36,7 +36,7 @@ impl<'a> Seen<'a> {
         Seen {
             stage: Stage::Start,
             names: ArrayVec::new(),
-            title: Default::default(),
+            title: &[],
             uses: 0,
         }
     }
@@ -56,7 +56,9 @@ impl<'a> Seen<'a> {
         match found {
             Record::Card { title: _ } => self.stage == Stage::Start,
             Record::Opt { letter, name: _ } => {
-                self.stage == Stage::Options && options < 12 && letter as usize == 97 + options
+                self.stage == Stage::Options
+                    && options < 12
+                    && letter as usize == b'a' as usize + options
             }
             Record::Use { formula: _ } => self.stage == Stage::Options || self.stage == Stage::Uses,
             Record::End => self.stage == Stage::Uses,

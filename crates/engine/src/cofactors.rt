@@ -2,6 +2,7 @@ ghost use Rattle.std.specs.Prelude.{◌≡◌};
 ghost use Rattle.table.specs.Room.{SameRoom};
 ghost use Rattle.engine.specs.Calls.{RestrictOut};
 
+use crate::calls::sign_level;
 use crate::faults::GraphFault;
 use crate::graph::Graph;
 use table::NodeTable;
@@ -13,11 +14,9 @@ impl<T: NodeTable> Graph<T> {
         ensures room { SameRoom T.limit T.rest self.old self.new }
     {
         let held = self.len();
-        if k < 1 || k > 12 {
-            return Err(GraphFault::NoOption);
-        }
+        let level = sign_level(k)?;
         self.issued(f)?;
-        let walked = self.manager.restrict(f, 2 * k, value);
+        let walked = self.manager.restrict(f, level, value);
         self.end(held, walked)
     }
 }

@@ -92,6 +92,7 @@ impl<T: NodeTable> Graph<T> {
     }
 
     // Ends a call of which `held` nodes were there before: where it was refused, those that it entered are taken back.
+    // What the call does is no closure that is handed in: a clause sees a graph as its table, and could not say what a walk did to the manager.
     pub(crate) fn end<A, E, F: From<E>>(&mut self, held: u16, done: Result<A, E>) -> Result<A, F>
         ensures ended { Ended F.from_gives held done (T.nodes self.old) result (T.nodes self.new) }
         ensures room { SameRoom T.limit T.rest self.old self.new }

@@ -1,6 +1,8 @@
 // Questions about product sets; they enter no node.
-ghost use Rattle.std.specs.Prelude.{◌≡◌};
-ghost use Rattle.tally.specs.Weights.{model};
+ghost use Rattle.std.specs.Prelude.{◌≡◌, MatchResult};
+ghost use Rattle.diagram.specs.Nodes.{Issued, meaning};
+ghost use Rattle.implicant.specs.Variables.{ProductSet};
+ghost use Rattle.engine.specs.declared.faults.GraphFault.TheVariants.{NotProductSet};
 ghost use Rattle.engine.specs.Reads.{ContainsOut, TallyOut};
 
 use crate::faults::GraphFault;
@@ -12,6 +14,18 @@ use tally::Tally;
 use tally_walk::tally_set;
 
 impl<T: NodeTable> Graph<T> {
+    // Whether an issued handle means a product set; refused with 11 where it does not.
+    fn product_set(&self, set: u16) -> Result<(), GraphFault>
+        requires { Issued (T.nodes self.now) set }
+        ensures { MatchResult result (λ _. ProductSet (meaning (T.nodes self.now) set)) (λ e. (ProductSet (meaning (T.nodes self.now) set) → ⊥) × (e ≡ NotProductSet)) }
+    {
+        if is_product_set(&self.manager.table, set) {
+            Ok(())
+        } else {
+            Err(GraphFault::NotProductSet)
+        }
+    }
+
     // Whether a set has the product of two masks.
     pub fn contains(&self, set: u16, named: u16, sign: u16) -> Result<bool, GraphFault>
         ensures { ContainsOut (T.limit self.now) set named sign (T.nodes self.now) result }
@@ -20,26 +34,22 @@ impl<T: NodeTable> Graph<T> {
             return Err(GraphFault::NoProduct);
         };
         self.issued(set)?;
-        if !is_product_set(&self.manager.table, set) {
-            return Err(GraphFault::NotProductSet);
-        }
+        self.product_set(set)?;
         Ok(answer_at(&self.manager.table, set, product))
     }
 
-    // Leaves the tally of a set in `answer`.
+    // Leaves the tally of a set in `answer`, a place that the caller lends, as it lends the working places.
     pub fn tally<W: Tally>(
         &self,
         set: u16,
         places: &mut [W::Weight],
         answer: &mut W::Weight,
     ) -> Result<(), GraphFault>
-        ensures { TallyOut (model W.nothing W.single W.joins W.naming) (T.limit self.now) set (T.nodes self.now) result places.old answer.old places.new answer.new }
+        ensures { TallyOut W.model (T.limit self.now) set (T.nodes self.now) result places.old answer.old places.new answer.new }
     {
         let held = self.len();
         self.issued(set)?;
-        if !is_product_set(&self.manager.table, set) {
-            return Err(GraphFault::NotProductSet);
-        }
+        self.product_set(set)?;
         if places.len() < held as usize + 2 {
             return Err(GraphFault::FewPlaces);
         }

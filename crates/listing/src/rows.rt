@@ -1,4 +1,4 @@
-ghost use Rattle.std.specs.Prelude.{◌≡◌, ◌≤◌, Bool, length};
+ghost use Rattle.std.specs.Prelude.{◌≡◌, Bool, length};
 ghost use Rattle.decimal.specs.Outputs.{HasRoom, Puts};
 ghost use Rattle.product.specs.Products.{words_of};
 ghost use Rattle.listing.specs.Listing.{field, row};

@@ -1,4 +1,4 @@
-ghost use Rattle.std.specs.Prelude.{◌≡◌, ◌≤◌, length, min, ◌+◌, if◌then◌else◌};
+ghost use Rattle.std.specs.Prelude.{◌≡◌, ◌≤◌, length};
 ghost use Rattle.decimal.specs.Outputs.{HasRoom, Puts};
 ghost use Rattle.listing.specs.Listing.{last_row};
 ghost use Rattle.listing.specs.Received.{Grown};

@@ -129,17 +129,10 @@ module _ (gone named sign : ℕ) (next : gone < 12) where
         ∙ map-append all (prefixed n absent (listed n (λ p. c (absent, p)))) (second ++ third)
         ∙ λ i. u i ++ (map-append all second third ∙ λ j. v j ++ w j) i
 
--- A longer prefix is nearer to the end.
-module _ {b x : Prefix} {w : Word} (e : Longer b w x) where
-  pub longer_falls : b.gone < 12 → 12 - x.gone < 12 - b.gone
-  longer_falls next = omega (arith, e.gone)
-
-  pub longer_level : {l : ℕ} → 2 * b.gone + 2 < l → 2 * x.gone + 1 ≤ l
-  longer_level lt = omega (arith, e.gone)
-
-  longer_handed : (f : Fun) → handed x f ≡ behind (b.gone + 1) (b.named + cond (names w) (2 ^ (11 - b.gone)) 0) (b.sign + cond (wants w) (2 ^ (11 - b.gone)) 0) f
-  unfolding handed
-  longer_handed f = λ i. behind (e.gone i) (e.named i) (e.sign i) f
+-- What is handed over behind a longer prefix, by the masks before.
+longer_handed : {b x : Prefix} {w : Word} → Longer b w x → (f : Fun) → handed x f ≡ behind (b.gone + 1) (b.named + cond (names w) (2 ^ (11 - b.gone)) 0) (b.sign + cond (wants w) (2 ^ (11 - b.gone)) 0) f
+unfolding handed
+longer_handed e f = λ i. behind (e.gone i) (e.named i) (e.sign i) f
 
 -- What is handed over behind the three longer prefixes, one after the other, is what is handed over behind b.
 pub walked_more : (b : Prefix) → b.gone < 12 → {f lo hi ab skip re wa : Fun} → Sides (2 * b.gone + 1) f lo hi → Sides (2 * b.gone + 2) lo ab skip → Sides (2 * b.gone + 2) hi re wa

@@ -1,4 +1,4 @@
-ghost use Rattle.std.specs.Prelude.{◌≡◌, ◌+◌, ◌*◌, ◌≤◌, List, ◌++◌};
+ghost use Rattle.std.specs.Prelude.{◌+◌, ◌*◌, ◌≤◌, List, ◌++◌};
 ghost use Rattle.product.specs.Words.{Words};
 ghost use Rattle.diagram.specs.Nodes.{Issued, meaning, level_of};
 ghost use Rattle.implicant.specs.Lists.{listed};

@@ -1,10 +1,10 @@
 use Rattle.std.proofs.Common.{◌≡◌, ◌<◌, List, [], ◌∷◌, ◌++◌, sym, ap, ◌∙◌, subst, append-nil, arith}
 use Rattle.product.specs.Words.{Words}
 use Rattle.diagram.specs.Nodes.{meaning}
-use Rattle.walk.proofs.Halves.{falls_under, branch_sides}
+use Rattle.walk.proofs.Halves.{branch_sides}
 use Rattle.set_walk.specs.declared.prefix.Prefix.{Prefix}
 use Rattle.set_walk.specs.Prefixes.{handed}
-use Rattle.set_walk.proofs.Walking.{handed_none, handed_last, no_answers, last_answers, longer_falls, longer_level, walked_more}
+use Rattle.set_walk.proofs.Walking.{handed_none, handed_last, no_answers, last_answers, walked_more}
 use Rattle.set_walk.proofs.handing.+walk.Goals as goal
 
 pub returns-then-set-eq0 : goal.returns-then-set-eq0
@@ -23,27 +23,6 @@ returns-then-before-eq12 g t c = λ start ps fed.
 
 before_last : (b : Prefix) → (b.gone ≡ 12 → ⊥) → b.gone < 12
 before_last b ne = omega (arith, b.begun.few)
-
-pub walk-requires : goal.walk-requires
-walk-requires g t c κs within =
-    let next = before_last c.args.before c.if-before-eq12.false in
-    let d = c.branches-absent.ensures in
-    let e = c.with.ensures in
-    (falls_under c.decreases (longer_falls e next), (within.0, (within.1.0, (within.1.1, (d.lo_issued, longer_level e d.lo_deeper)))))
-
-pub walk-requires-2 : goal.walk-requires-2
-walk-requires-2 g t c κs within =
-    let next = before_last c.args.before c.if-before-eq12.false in
-    let d = c.branches-refused.ensures in
-    let e = c.with-2.ensures in
-    (falls_under c.decreases (longer_falls e next), (within.0, (within.1.0, (within.1.1, (d.lo_issued, longer_level e d.lo_deeper)))))
-
-pub walk-requires-3 : goal.walk-requires-3
-walk-requires-3 g t c κs within =
-    let next = before_last c.args.before c.if-before-eq12.false in
-    let d = c.branches-refused.ensures in
-    let e = c.with-3.ensures in
-    (falls_under c.decreases (longer_falls e next), (within.0, (within.1.0, (within.1.1, (d.hi_issued, longer_level e d.hi_deeper)))))
 
 pub returns : goal.returns
 returns g t c = λ start ps fed.

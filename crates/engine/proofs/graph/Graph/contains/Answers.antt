@@ -1,6 +1,6 @@
-use Rattle.std.proofs.Common.{◌≡◌, Ok, sym, refl, ap, ◌∙◌, subst, inl}
+use Rattle.std.proofs.Common.{◌≡◌, Ok, sym, ap, ◌∙◌, subst, inl}
 use Rattle.diagram.specs.Nodes.{meaning}
-use Rattle.implicant.specs.Variables.{ProductSet, mask_setting}
+use Rattle.implicant.specs.Variables.{mask_setting}
 use Rattle.implicant.proofs.Masking.{masks_are_words}
 use Rattle.implicant.proofs.Handles.{meaning_options}
 use Rattle.engine.proofs.graph.Graph.contains.Goals as goal
@@ -14,6 +14,5 @@ returns g c =
     let made = c.in-Ok.ensures in
     let words = c.answer_at.ensures ∙ sym (masks_are_words f (meaning_options (T.nodes t) (g.met.T.NodeTable.sound t).formed c.args.set) p) in
     let masks = ap (λ named. f (mask_setting named p.sign)) made.1 ∙ ap (λ sign. f (mask_setting c.args.named sign)) made.2 in
-    let set = subst (λ s. ProductSet (meaning (T.nodes s) c.args.set)) c.self.view_is (c.if-not-is_product_set.ensures.0 refl) in
     let is = subst (λ s. c.answer_at.result ≡ meaning (T.nodes s) c.args.set (mask_setting c.args.named c.args.sign)) c.self.view_is (words ∙ masks) in
-    record { outcome = inl (made.0, inl (c.in_ok-issued.ensures, inl (set, ap Ok is))) }
+    record { outcome = inl (made.0, inl (c.in_ok-issued.ensures, inl (c.in_ok-product_set.ensures, ap Ok is))) }
