@@ -7,6 +7,7 @@ use Rattle.formula.specs.declared.steps.Token.{Token}
 use Rattle.formula.specs.declared.steps.Token.TheVariants.{Operand, Negation, Infix, Opening, Closing, Foreign}
 use Rattle.formula.specs.Notation.{notation}
 use Rattle.formula.specs.Grammar.{Tree, Derives, single, negated, bracket, looser, chained, once}
+use Rattle.formula.specs.Faults.{fault_place}
 use Rattle.formula.specs.Answer.{Broken, ForeignAt, TooDeepAt, Refused}
 use Rattle.card_text.specs.declared.faults.TextFault.{TextFault}
 use Rattle.card_text.specs.declared.faults.TextFault.TheVariants.{Formula}
@@ -33,6 +34,13 @@ formula_feed (bracket a b {bs = bs} e f q d) = (no_feed a Opening e tt, All-push
 formula_feed (looser d) = formula_feed d
 formula_feed (chained {k = k} b {op = op} {bs = bs} {cs = cs} e h l r) = All-append _ bs (b ∷ cs) (formula_feed l) (no_feed b (Infix k op) e tt, formula_feed r)
 formula_feed (once {k = k} b {op = op} {bs = bs} {cs = cs} e h l r) = All-append _ bs (b ∷ cs) (formula_feed l) (no_feed b (Infix k op) e tt, formula_feed r)
+
+-- the fault of a text that is short enough lies within it
+pub place_inside : (bytes : List ℕ) (e : FormulaFault) → length bytes ≤ 4096 → Refused bytes e → fault_place e ≤ length bytes
+place_inside bytes TooLong s r = omega arith
+place_inside bytes (ForeignByte p) s r = r.0.place.inside
+place_inside bytes (Unexpected p) s r = r.0.place.inside
+place_inside bytes (TooDeep p) s r = r.0.place.inside
 
 module _ (bytes : List ℕ) where
   -- a text short enough is not too long

@@ -27,9 +27,9 @@ text_place (Form p) = p
 text_place (Field p) = p
 text_place (LooseLetter p) = p
 
--- a formula's fault, where the formula begins at `at`; none of a card is too long
+-- a formula's fault, where the formula begins at `at`, and its place from there; none of a card is too long
 abbrev pub Moved : ℕ → FormulaFault → TextFault → Type 0
-Moved at e fault = (e ≢ formula.TooLong) × (fault ≡ Formula e at)
+Moved at e fault = (e ≢ formula.TooLong) × (fault ≡ Formula e at) × (text_place fault ≡ at + fault_place e)
 
 -- the first letter that none of the first k options has stands at i
 pub record First (k : ℕ) (bytes : List ℕ) (i : ℕ) : Type 0 where
