@@ -22,13 +22,13 @@ use spelling::put_literals;
 use weights::weight;
 pub use words::Word;
 
-// Whether bit j of a mask of twelve bits is 1.
+// Whether bit j of a mask of twelve bits is 1; bit 15 is 0, as all past the twelfth.
 #[tactic(auto, using(crate::proofs::Bitwise::no_bit))]
 fn has_bit(mask: u16, j: u8) -> bool
     requires { mask < 4096 }
     ensures { result ≡ bit mask j }
 {
-    j < 12 && (mask >> j) % 2 == 1
+    (mask >> j.min(15)) % 2 == 1
 }
 
 impl Product {
@@ -84,10 +84,13 @@ impl Product {
     pub fn word(self, j: u8) -> Word
         ensures { word_of result ≡ word (bit self.named j) (bit self.sign j) }
     {
-        match (has_bit(self.named, j), has_bit(self.sign, j)) {
-            (false, _) => Word::Absent,
-            (true, false) => Word::Refused,
-            (true, true) => Word::Wanted,
+        if !has_bit(self.named, j) {
+            return Word::Absent;
+        }
+        if has_bit(self.sign, j) {
+            Word::Wanted
+        } else {
+            Word::Refused
         }
     }
 

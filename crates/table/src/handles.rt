@@ -18,11 +18,11 @@ pub fn handle_at(place: usize) -> u16
 pub fn place_of(handle: u16, held: usize, size: u16) -> Result<usize, TableFault>
     ensures { MatchResult result (λ place. (handle ≡ place + 2) × (place < held)) (λ e. (2 ≤ handle → held + 2 ≤ handle) × (e ≡ fault NotIssued size)) }
 {
-    match (handle as usize).checked_sub(2) {
-        Some(place) if place < held => Ok(place),
-        _ => Err(TableFault {
+    if handle < 2 || handle as usize - 2 >= held {
+        return Err(TableFault {
             reason: Reason::NotIssued,
             size,
-        }),
+        });
     }
+    Ok(handle as usize - 2)
 }

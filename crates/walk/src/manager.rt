@@ -30,13 +30,15 @@ impl<T: NodeTable, C: Cache> Manager<T, C> {
         Manager { table, cache }
     }
 
-    // Takes the newest nodes out until `count` are left, and with them all results, which may speak of them.
+    // Takes the newest nodes out until `count` are left, and with them all results, which may speak of them. Where none goes, all is still right.
     pub fn cut(&mut self, count: u16)
         ensures nodes { T.nodes self.new.table ≡ oldest count (T.nodes self.old.table) }
         ensures room { SameRoom T.limit T.rest self.old.table self.new.table }
     {
-        self.table.truncate(count);
-        self.cache.clear();
+        if count < self.table.len() {
+            self.table.truncate(count);
+            self.cache.clear();
+        }
     }
 
     // The handle of a node, or of `low` where both sides are one.
