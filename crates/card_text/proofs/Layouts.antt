@@ -1,11 +1,11 @@
 -- Cards are the texts that are written as a card. Assumes nothing.
-use Rattle.std.proofs.Common.{◌≡◌, ℕ, ◌+◌, ◌<◌, ◌≤◌, true, false, ◌⊎◌, List, [], ◌∷◌, ◌++◌, length, codes, sym, refl, ap, ◌∙◌, subst, inl, inr, append_assoc, append-nil, arith}
+use Rattle.std.proofs.Common.{◌≡◌, ℕ, ◌+◌, ◌<◌, ◌≤◌, true, false, ◌⊎◌, List, [], ◌∷◌, ◌++◌, length, codes, sym, refl, ap, ◌∙◌, subst, inl, inr, append_assoc, append-nil, arith, length-append}
 use Rattle.std.specs.List.{AllByRecursion}
 use Rattle.std.proofs.ByRecursion.{All-push, All-weaker, All-append}
 use Rattle.std.proofs.lemmas.List.{length_push}
 use Rattle.card_text.specs.declared.state.Stage.TheVariants.{Start, Options, Uses}
 use Rattle.card_text.specs.Grammar.{Row, card_row, opt_row, use_row, end_row, spell, NoFeed}
-use Rattle.card_text.specs.Card.{spelled, option_names, formulas, card_title, stage_of, stage_after, Plain, Within, Fresh, Sound, Good}
+use Rattle.card_text.specs.Card.{spelled, option_names, formulas, card_title, stage_of, stage_after, Plain, Within, Fresh, IsFormula, Sound, Good, IsCard}
 use Rattle.card_text.specs.Layout.{line, opt_lines, use_lines, Named, Usable, Written, CardsAreWritten, WrittenCard}
 use Rattle.card_text.proofs.Formulas.{formula_feed}
 use Rattle.card_text.proofs.Lines.{word_feed}
@@ -121,6 +121,29 @@ is_written text (end_row ∷ rows) short e good done =
 
 pub card_written : CardsAreWritten
 card_written text rows c = is_written text rows c.short c.holds c.good (subst Ended (sym c.ended) tt)
+
+-- every formula of a card is one, and no longer than the text
+lines_long : (fs : List (List ℕ)) → AllByRecursion (λ f. length f ≤ length (use_lines fs)) fs
+lines_long [] = tt
+lines_long (f ∷ fs) =
+    let whole = length-append (line (use_row f)) (use_lines fs) in
+    let first = length-append f (10 ∷ []) in
+    (omega (arith, whole, first), All-weaker (λ g. length g ≤ length (use_lines fs)) (λ g. length g ≤ length (use_lines (f ∷ fs))) (λ g le. omega (arith, whole, le)) fs (lines_long fs))
+
+all_both : {X : Type 0} (P Q : X → Type 0) (xs : List X) → AllByRecursion P xs → AllByRecursion Q xs → AllByRecursion (λ x. P x × Q x) xs
+all_both P Q [] p q = tt
+all_both P Q (x ∷ xs) p q = ((p.0, q.0), all_both P Q xs p.1 q.1)
+
+pub formulas_read : (text : List ℕ) (rows : List Row) → IsCard text rows → AllByRecursion (λ f. IsFormula f × (length f ≤ 4096)) (formulas rows)
+formulas_read text rows c =
+    let w = card_written text rows c in
+    let fs = formulas rows in
+    let ls = opt_lines 97 (option_names rows) in
+    let tail = length-append (use_lines fs) (line end_row) in
+    let middle = length-append ls (use_lines fs ++ line end_row) in
+    let all = length-append (line (card_row (card_title rows))) (ls ++ (use_lines fs ++ line end_row)) in
+    let short : length (use_lines fs) ≤ 4096 = omega (arith, w.short, ap length w.holds, tail, middle, all) in
+    all_both IsFormula (λ f. length f ≤ 4096) fs (All-weaker (Usable (length (option_names rows))) IsFormula (λ f u. u.reads) fs w.meant) (All-weaker (λ f. length f ≤ length (use_lines fs)) (λ f. length f ≤ 4096) (λ f le. omega (arith, le, short)) fs (lines_long fs))
 
 -- the other way: rows for what is written
 plain_feed : (l : List ℕ) → AllByRecursion Plain l → NoFeed l

@@ -1,9 +1,14 @@
 -- What searches over a list answer. Assumes nothing.
-use Rattle.std.proofs.Common.{◌≡◌, ℕ, ◌<◌, ◌↔◌, IsTrue, not, Bool, true, false, List, [], ◌∷◌, map, length, get_or, take, MatchBool, MatchOption, Option, Some, None, sym, refl, subst, arith, Bor}
+use Rattle.std.proofs.Common.{◌≡◌, ℕ, ◌<◌, ◌↔◌, IsTrue, not, Bool, true, false, List, [], ◌∷◌, map, length, get_or, take, Decides, MatchBool, MatchOption, Option, Some, None, sym, refl, subst, arith, Bor}
 use Rattle.std.specs.List.{AllByRecursion, AllWithin, HoldsAt}
 use Rattle.std.proofs.ByRecursion.{All-get_or, All-map, all_from_every}
 use Rattle.std.proofs.lemmas.List.{length-take, get_or-take}
+use Rattle.std.proofs.lemmas.Bool.{false≢true}
 use Rattle.card_text.specs.Card.{Fresh}
+
+pub when_decides : (P : Type 0) (r : Bool) → Decides r P → MatchBool r P (P → ⊥)
+when_decides P true d = d.0 refl
+when_decides P false d = λ p. false≢true (d.1 p)
 
 all_unmap : {X Y : Type 0} (P : Y → Type 0) (f : X → Y) (xs : List X) → AllByRecursion P (map f xs) → AllByRecursion (λ x. P (f x)) xs
 all_unmap P f [] h = tt

@@ -21,7 +21,7 @@ tree_run ss us = run leaf neg binary ss us
 pub tree_run_all : (t : Tree) → tree_run (postfix t) [] ≡ t ∷ []
 tree_run_all t = run_all leaf neg binary t ∙ ap (λ u. u ∷ []) (eval_tree t)
 
-part_trans : {t u v : Tree} → Part t u → Part u v → Part t v
+pub part_trans : {t u v : Tree} → Part t u → Part u v → Part t v
 part_trans whole q = q
 part_trans (negated p) q = negated (part_trans p q)
 part_trans (left p) q = left (part_trans p q)

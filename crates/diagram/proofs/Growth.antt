@@ -1,11 +1,11 @@
 -- What an extended sequence keeps. Assumes nothing.
 use Rattle.std.proofs.Common.{◌≡◌, ℕ, ◌-◌, ◌≤◌, List, [], ◌∷◌, ◌++◌, length, drop, sym, refl, ap, ◌∙◌, subst, append_assoc, arith, length-append}
 use Rattle.diagram.specs.declared.Node.{Node}
-use Rattle.diagram.specs.Functions.{Fun}
-use Rattle.diagram.specs.Nodes.{Issued, meaning, level_of, Fit, WellFormed, Extends, Stands}
+use Rattle.diagram.specs.Functions.{Fun, choice}
+use Rattle.diagram.specs.Nodes.{Issued, meaning, level_of, At, Fit, WellFormed, Extends, Split, Stands}
 use Rattle.diagram.specs.Counts.{HasHandle, Held}
 use Rattle.diagram.specs.Theorems.{GrowthKeeps}
-use Rattle.diagram.proofs.Tables.{meaning_more, level_more, fit_more}
+use Rattle.diagram.proofs.Tables.{meaning_more, level_more, at_more, fit_more}
 
 pub extends_self : (ns : List Node) → Extends ns ns
 extends_self ns = ([], refl)
@@ -25,6 +25,9 @@ meaning_kept {a} x h p = ap (λ ns. meaning ns h) x.1 ∙ meaning_more x.0 a h p
 pub level_kept : {a b : List Node} → Extends a b → (h : ℕ) → Issued a h → level_of b h ≡ level_of a h
 level_kept {a} x h p = ap (λ ns. level_of ns h) x.1 ∙ level_more x.0 a h p
 
+pub at_kept : {a b : List Node} → Extends a b → (h : ℕ) (n : Node) → At a h n → At b h n
+at_kept {a} x h n p = subst (λ ns. At ns h n) (sym x.1) (at_more x.0 a h n p)
+
 pub fit_kept : {a b : List Node} → Extends a b → (n : Node) → Fit a n → Fit b n
 fit_kept {a} x n p = subst (λ ns. Fit ns n) (sym x.1) (fit_more x.0 a n p)
 
@@ -43,6 +46,15 @@ has_handle_kept x p = record { at = p.at; issued = issued_kept x p.at p.issued; 
 
 pub held_kept : {a b : List Node} {g : Fun} → Extends a b → Held a g → Held b g
 held_kept x p = record { at = p.at; two = p.two; issued = issued_kept x p.at p.issued; is = meaning_kept x p.at p.issued ∙ p.is }
+
+pub split_kept : {a b : List Node} {l h lo hi : ℕ} → Extends a b → Issued a h → Split a l h lo hi → Split b l h lo hi
+split_kept {a} {b} {l} {h} {lo} {hi} x p r = record {
+  lo_issued = issued_kept x lo r.lo_issued;
+  hi_issued = issued_kept x hi r.hi_issued;
+  lo_deeper = omega (arith, level_kept x lo r.lo_issued, r.lo_deeper);
+  hi_deeper = omega (arith, level_kept x hi r.hi_issued, r.hi_deeper);
+  value = meaning_kept x h p ∙ r.value ∙ sym (ap (λ f. choice l f (meaning b hi)) (meaning_kept x lo r.lo_issued) ∙ ap (choice l (meaning a lo)) (meaning_kept x hi r.hi_issued));
+}
 
 -- What stood at level k or deeper stands at any level before it.
 pub stands_kept : {a b : List Node} {l k h : ℕ} {f : Fun} → Extends a b → l ≤ k → Stands a k h f → Stands b l h f

@@ -4,13 +4,13 @@ use mathlib.Core.Path.{fun_ext}
 use Rattle.std.proofs.lemmas.Bool.{cases_Bool, false≢true, and_parts, and_from}
 use Rattle.product.specs.Words.{Words}
 use Rattle.product.specs.Masks.{word}
-use Rattle.diagram.specs.Functions.{Fun, Constant, Restriction, NodeOf}
+use Rattle.diagram.specs.Functions.{Fun, Constant, Ignores, Restriction, NodeOf}
 use Rattle.implicant.specs.Implicants.{Condition, Prime, low, high, both}
 use Rattle.implicant.specs.Variables.{signs_from, product_from, product_setting, condition, SignsOnly, OptionsOnly, ProductSet, ArePrimes, primes_by_halves, Here, Working, PrimeRestrictions, PrimeNodes}
 use Rattle.implicant.specs.Theorems.{PrimesHaveOneSet, PrimesAreProductSet, NodesVary}
 use Rattle.implicant.proofs.Primes.{prime_recursion}
 use Rattle.implicant.proofs.Essentials.{prime_dec}
-use Rattle.implicant.proofs.Settings.{product_back}
+use Rattle.implicant.proofs.Settings.{product_alike, product_back}
 use Rattle.implicant.proofs.Sets.{products_make_sets}
 
 -- no option is left
@@ -91,6 +91,12 @@ primes_are_product_set n k c g e x =
       subst (λ (f : Fun). ProductSet f) is set.1,
       λ p. subst (λ q. (g (product_setting n k p) ≡ true) ↔ Prime n c q) (product_back n k p) (x (product_setting n k p)),
     )
+
+-- the set of the primes of the options after the first k ignores the variables before them
+pub primes_ignore : (n k : ℕ) (c : Condition n) (g : Fun) → ArePrimes n k c g → Ignores (2 * k) g
+primes_ignore n k c g x s t a =
+    let same = product_alike n k s t (λ j le lt. λ i. word (a (2 * j + 1) (omega arith) i) (a (2 * j + 2) (omega arith) i)) in
+    same_bool (g s) (g t) (λ e. (x t).1 (subst (Prime n c) same ((x s).0 e))) (λ e. (x s).1 (subst (Prime n c) (sym same) ((x t).0 e)))
 
 -- The working functions of a condition, by those of its parts.
 module _ (R : Fun → Fun → Type 0) where

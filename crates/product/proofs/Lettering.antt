@@ -1,16 +1,16 @@
 -- The letters of two masks, one option after another. Assumes nothing.
-use Rattle.std.proofs.Common.{◌≡◌, ℕ, zero, suc, ◌+◌, ◌-◌, ◌<◌, ◌≤◌, List, [], ◌++◌, length, sym, refl, ap, ◌∙◌, append_assoc, append-nil, arith, length-append}
+use Rattle.std.proofs.Common.{◌≡◌, ℕ, zero, suc, ◌+◌, ◌-◌, ◌<◌, ◌≤◌, true, false, List, [], ◌∷◌, ◌++◌, length, sym, refl, ap, ◌∙◌, append_assoc, append-nil, arith, length-append}
 use Rattle.product.specs.Bits.{bit}
 use Rattle.product.specs.Words.{Word, spell, letters}
 use Rattle.product.specs.Masks.{word, words, literal, last_letters}
 
-letters_none : (n named sign : ℕ) → n ≡ 0 → last_letters n named sign ≡ []
+pub letters_none : (n named sign : ℕ) → n ≡ 0 → last_letters n named sign ≡ []
 unfolding last_letters
 letters_none zero named sign e = refl
 letters_none (suc n) named sign e = absurd (omega arith)
 
 -- the first option's literal, then those of the rest
-letters_next : (n named sign : ℕ) → 0 < n → n ≤ 12 → last_letters n named sign ≡ literal named sign (n - 1) ++ last_letters (n - 1) named sign
+pub letters_next : (n named sign : ℕ) → 0 < n → n ≤ 12 → last_letters n named sign ≡ literal named sign (n - 1) ++ last_letters (n - 1) named sign
 unfolding literal last_letters
 letters_next n named sign least most =
     let m : ℕ = n - 1 in
@@ -27,6 +27,24 @@ letters_next n named sign least most =
 
     next : (n m : ℕ) → n ≡ m + 1 → n ≤ 12 → 109 - n + 1 ≡ 109 - m
     next n m e l = omega arith
+
+-- its length
+pub letters_next_length : (n named sign : ℕ) → (n ≡ 0 → ⊥) → n ≤ 12
+    → length (last_letters n named sign) ≡ length (literal named sign (n - 1)) + length (last_letters (n - 1) named sign)
+letters_next_length n named sign least most =
+    ap length (letters_next n named sign (omega (arith, least)) most) ∙ length-append (literal named sign (n - 1)) (last_letters (n - 1) named sign)
+
+pub literal_absent : (named sign j : ℕ) → bit named j ≡ false → literal named sign j ≡ []
+unfolding literal
+literal_absent named sign j e = λ i. spell (word (e i) (bit sign j)) (108 - j)
+
+pub literal_wanted : (named sign j x : ℕ) → bit named j ≡ true → bit sign j ≡ true → x ≡ 108 - j → literal named sign j ≡ x ∷ []
+unfolding literal
+literal_wanted named sign j x e f g = (λ i. spell (word (e i) (f i)) (108 - j)) ∙ ap (λ (z : ℕ). z ∷ []) (sym g)
+
+pub literal_refused : (named sign j x : ℕ) → bit named j ≡ true → bit sign j ≡ false → x ≡ 108 - j → literal named sign j ≡ 33 ∷ x ∷ []
+unfolding literal
+literal_refused named sign j x e f g = (λ i. spell (word (e i) (f i)) (108 - j)) ∙ ap (λ (z : ℕ). 33 ∷ z ∷ []) (sym g)
 
 -- bytes before the letters of the last n options: one literal on, how long it may be, and at the end
 module _ (n named sign : ℕ) (bytes whole : List ℕ) (are : bytes ++ last_letters n named sign ≡ whole) where

@@ -1,17 +1,21 @@
 -- What follows from a table's outcomes. Assumes nothing.
-use Rattle.std.proofs.Common.{◌≡◌, ℕ, ◌⊎◌, List, [], ◌∷◌, Ok, Err, sym, refl, ap, ◌∙◌, subst, inl, inr, arith}
+use Rattle.std.proofs.Common.{◌≡◌, ℕ, ◌≤◌, ◌⊎◌, List, [], ◌∷◌, length, Ok, Err, Result, sym, refl, ap, ◌∙◌, subst, inl, inr, arith}
 use Rattle.diagram.specs.declared.Node.{Node}
 use Rattle.diagram.specs.Nodes.{At, WellFormed, Extends}
 use Rattle.diagram.proofs.Tables.{meaning_at, newest_node}
 use Rattle.diagram.proofs.Growth.{fit_kept}
 use Rattle.diagram.proofs.Canon.{canonical}
 use Rattle.table.specs.declared.faults.TableFault.{TableFault}
-use Rattle.table.specs.Model.{Found, Entered, Unfit, NoRoom, Inserting, Inserted}
+use Rattle.table.specs.Model.{Sound, Found, Entered, Unfit, NoRoom, Inserting, Inserted}
 use Rattle.table.specs.Decided.{GetDecided, InsertAgain, InsertDecided}
 
 -- A node has one handle.
 pub at_unique : (ns : List Node) (n : Node) (h k : ℕ) → WellFormed ns → At ns h n → At ns k n → h ≡ k
 at_unique ns n h k w a b = canonical ns w h k a.issued b.issued (meaning_at ns h n w a ∙ sym (meaning_at ns k n w b))
+
+-- Refused: the nodes are as before.
+pub refused_kept : (N : ℕ) (ns : List Node) (n : Node) (e : TableFault) (new : List Node) → Inserted N ns n (Err e) new → new ≡ ns
+refused_kept N ns n e new p = elim p.outcome [ inl x ↦ x.kept | inr x ↦ x.kept ]
 
 -- Granted: the old nodes are below, the handle is the node's, and the table stays well formed.
 pub granted_extends : (N : ℕ) (ns : List Node) (n : Node) (h : ℕ) (new : List Node) → Inserted N ns n (Ok h) new → Extends ns new
@@ -32,6 +36,23 @@ granted_formed N ns n h new w p =
       | inl x ↦ subst WellFormed (sym x.kept) w
       | inr x ↦ subst WellFormed (sym x.added) (p.outcome.0, x.absent, w)
     ]
+
+pub granted_sound : (N : ℕ) (ns : List Node) (n : Node) (h : ℕ) (new : List Node) → Sound N ns → Inserted N ns n (Ok h) new → Sound N new
+granted_sound N ns n h new s p =
+    let room : length new ≤ N = elim p.outcome.1 [
+      | inl x ↦ omega (arith, ap length x.kept, s.room)
+      | inr x ↦ omega (arith, ap length x.added, x.room)
+    ] in
+    record { small = s.small; room = room; formed = granted_formed N ns n h new s.formed p }
+
+-- Any outcome extends the nodes, and keeps a table sound.
+pub inserted_extends : (N : ℕ) (ns : List Node) (n : Node) (r : Result ℕ TableFault) (new : List Node) → Inserted N ns n r new → Extends ns new
+inserted_extends N ns n (Ok h) new p = granted_extends N ns n h new p
+inserted_extends N ns n (Err e) new p = ([], refused_kept N ns n e new p)
+
+pub inserted_sound : (N : ℕ) (ns : List Node) (n : Node) (r : Result ℕ TableFault) (new : List Node) → Sound N ns → Inserted N ns n r new → Sound N new
+inserted_sound N ns n (Ok h) new s p = granted_sound N ns n h new s p
+inserted_sound N ns n (Err e) new s p = subst (Sound N) (sym (refused_kept N ns n e new p)) s
 
 -- Outcomes are decided.
 module _ (N : ℕ) (ns : List Node) (n : Node) (w : WellFormed ns) where
